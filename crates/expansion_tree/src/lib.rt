@@ -1,0 +1,6 @@
+//! Expansion trees (Miller 1987), the formulas at which they stand, and their leaves and paths.
+#![tactic(auto)]
+
+pub mod matings;
+pub mod matrices;
+pub mod trees;
