@@ -47,17 +47,17 @@ constant_to falsehood = gnum 5
 constant_to (forall t) = gcons (type_to t) gnil
 constant_to (exists t) = gcons gnil (type_to t)
 
-abbrev numbered : ℕ → Constant
-numbered zero = negation
-numbered (suc zero) = conjunction
-numbered (suc (suc zero)) = disjunction
-numbered (suc (suc (suc zero))) = implication
-numbered (suc (suc (suc (suc zero)))) = truth
-numbered (suc (suc (suc (suc (suc n))))) = falsehood
+abbrev constant_numbered : ℕ → Constant
+constant_numbered zero = negation
+constant_numbered (suc zero) = conjunction
+constant_numbered (suc (suc zero)) = disjunction
+constant_numbered (suc (suc (suc zero))) = implication
+constant_numbered (suc (suc (suc (suc zero)))) = truth
+constant_numbered (suc (suc (suc (suc (suc n))))) = falsehood
 
 abbrev constant_from : Gv → Constant
 constant_from gnil = negation
-constant_from (gnum n) = numbered n
+constant_from (gnum n) = constant_numbered n
 constant_from (gcons gnil t) = exists (type_from t)
 constant_from (gcons (gnum n) t) = forall (base_type n)
 constant_from (gcons (gcons r s) t) = forall (function_type (type_from r) (type_from s))
