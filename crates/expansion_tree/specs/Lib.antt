@@ -3,4 +3,5 @@ pub mod Matrices
 pub mod Standing
 pub mod Stood
 pub mod Codes
+pub mod Copies
 pub mod Fitted

@@ -12,7 +12,7 @@ use crate::faults::FitFault;
 use crate::fit::{Leaf, stand};
 use crate::matrices::Matrix;
 use crate::trees::Tree;
-use hol_terms::terms::Tm;
+use hol_terms::terms::{Tm, copy};
 use std::alloc::Global;
 use std::marker::Model;
 
@@ -50,9 +50,27 @@ pub struct LeafView<'a> {
     pub formula: &'a Tm,
 }
 
+/// Fits the tree to the formula, keeping equal copies of both. `Misfit` names the first node, in preorder from 1, that can't stand at
+/// its formula and polarity (Miller 1987).
+pub fn fit(alloc: Global, formula: &Tm, tree: &Tree) -> Result<Fitted, FitFault>
+    ensures fits { IfOk result (λ f. IsFitted f × (f.formula ≡ plain_term formula.now) × (f.tree ≡ plain_tree tree.now)) }
+    ensures fault { IfErr result (λ e. IsFirstMisfit e true (plain_term formula.now) (plain_tree tree.now) 1) }
+    ensures only { (k : ℕ) → result ≡ Err (FitFault.Misfit k) → (s : Standing) → Stands true (plain_term formula.now) (plain_tree tree.now) s → ⊥ }
+{
+    let mut leaves = Vec::new(alloc);
+    let (matrix, _) = stand(alloc, tree, 1, true, formula, &mut leaves)?;
+    let formula = copy(alloc, formula)?;
+    let tree = tree.copy(alloc)?;
+    Ok(Fitted {
+        formula,
+        tree,
+        matrix,
+        leaves,
+    })
+}
+
 impl Fitted {
-    /// Fits the tree to the formula, keeping both. `Misfit` names the first node, in preorder from 1, that can't stand at its formula
-    /// and polarity.
+    /// As `fit`, keeping the formula and the tree themselves.
     pub fn new(alloc: Global, formula: Tm, tree: Tree) -> Result<Fitted, FitFault>
         ensures fits { IfOk result (λ f. IsFitted f × (f.formula ≡ plain_term formula) × (f.tree ≡ plain_tree tree)) }
         ensures fault { IfErr result (λ e. IsFirstMisfit e true (plain_term formula) (plain_tree tree) 1) }
@@ -111,3 +129,6 @@ impl Fitted {
         &self.matrix
     }
 }
+
+#[cfg(test)]
+mod tests;

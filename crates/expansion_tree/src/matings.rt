@@ -2,13 +2,14 @@
 
 ghost use Rattle.std.specs.Prelude.{◌≡◌, ◌<◌, ◌++◌, ◌∷◌, [], length, slice_get, OnErr, OnOk, Some};
 
+use hol_terms::lists::Pairs;
 use std::alloc::{AllocError, Global};
 use std::marker::Model;
 
 /// A list of pairs of leaf numbers (Andrews 1981).
 #[derive(Drop)]
 pub struct Mating {
-    pairs: Vec<(u64, u64)>,
+    pairs: Pairs,
 }
 
 impl Model for Mating {
@@ -16,7 +17,7 @@ impl Model for Mating {
 
     ghost Value = { List (ℕ × ℕ) };
 
-    ghost view = { λ mating. mating.pairs.items };
+    ghost view = { λ mating. mating.pairs };
 }
 
 impl Mating {
@@ -25,7 +26,7 @@ impl Mating {
         ensures { result ≡ [] }
     {
         Mating {
-            pairs: Vec::new(alloc),
+            pairs: Pairs::new(alloc),
         }
     }
 
@@ -34,15 +35,14 @@ impl Mating {
         ensures ok { OnOk result (self.new ≡ self.old ++ (i, j) ∷ []) }
         ensures err { OnErr result (self.new ≡ self.old) }
     {
-        self.pairs.push((i, j))?;
-        Ok(())
+        self.pairs.push(i, j)
     }
 
     /// How many pairs there are.
     pub fn len(&self) -> u64
         ensures { result ≡ length self.now }
     {
-        self.pairs.len() as u64
+        self.pairs.len()
     }
 
     /// The pair at a place, from 0.
@@ -50,13 +50,13 @@ impl Mating {
         requires { k < length self.now }
         ensures { slice_get self.now k ≡ Some result }
     {
-        self.pairs[k as usize]
+        self.pairs.at(k)
     }
 
     /// The pairs in their order.
     pub fn pairs(&self) -> &[(u64, u64)]
         ensures { result.now ≡ self.now }
     {
-        &self.pairs
+        self.pairs.as_slice()
     }
 }

@@ -1,7 +1,12 @@
 //! Expansion trees as they are written: only their terms and variables, and no formulas.
 
+ghost use Rattle.std.specs.Prelude.{◌≡◌, IfOk};
+ghost use Rattle.expansion_tree.specs.Copies.{branches_from};
+ghost use Rattle.expansion_tree.specs.Trees.{no_branch, plain_branches, plain_tree};
+
 use hol_terms::names::Name;
-use hol_terms::terms::Tm;
+use hol_terms::terms::{Tm, copy};
+use std::alloc::{AllocError, Global};
 
 /// A connective of two sides.
 #[derive(Clone, Copy, Debug, PartialEq, Eq)]
@@ -40,4 +45,63 @@ impl Drop for Branches {
             }
         }
     }
+}
+
+impl Tree {
+    /// An equal tree.
+    #[cycle(copy)]
+    pub fn copy(&self, alloc: Global) -> Result<Tree, AllocError>
+        ensures { IfOk result (λ tree. plain_tree tree ≡ plain_tree self.now) }
+    {
+        match self {
+            Tree::Leaf => Ok(Tree::Leaf),
+            Tree::Const => Ok(Tree::Const),
+            Tree::Not(t) => {
+                let t = t.copy(alloc)?;
+                Ok(Tree::Not(Box::new(alloc, t)?))
+            }
+            Tree::Bin(op, t, u) => {
+                let t = t.copy(alloc)?;
+                let u = u.copy(alloc)?;
+                Ok(Tree::Bin(*op, Box::new(alloc, t)?, Box::new(alloc, u)?))
+            }
+            Tree::Sel(name, t) => {
+                let name = name.copy(alloc)?;
+                let t = t.copy(alloc)?;
+                Ok(Tree::Sel(name, Box::new(alloc, t)?))
+            }
+            Tree::Exp(branches) => Ok(Tree::Exp(branches.copy(alloc)?)),
+        }
+    }
+}
+
+impl Branches {
+    /// Equal branches.
+    #[cycle(copy)]
+    pub fn copy(&self, alloc: Global) -> Result<Branches, AllocError>
+        ensures { IfOk result (λ branches. plain_branches branches ≡ plain_branches self.now) }
+    {
+        let mut items = Vec::new(alloc);
+        let mut rest = self;
+        while let Branches::More(term, tree, more) = rest {
+            let term = copy(alloc, term)?;
+            let tree = tree.copy(alloc)?;
+            items.push((term, tree))?;
+            rest = &**more;
+        }
+        chain(alloc, items)
+    }
+}
+
+/// The terms with their trees as branches.
+fn chain(alloc: Global, items: Vec<(Tm, Tree)>) -> Result<Branches, AllocError>
+    ensures { IfOk result (λ branches. plain_branches branches ≡ branches_from items.items no_branch) }
+{
+    let mut rest = items;
+    let mut branches = Branches::End;
+    while let Some((term, tree)) = rest.pop() {
+        let tree = Box::new(alloc, tree)?;
+        branches = Branches::More(term, tree, Box::new(alloc, branches)?);
+    }
+    Ok(branches)
 }
