@@ -1,3 +1,4 @@
+pub mod Bodies
 pub mod Naming
 pub mod Same
 pub mod Typings

@@ -1,7 +1,10 @@
 pub mod Codes
 pub mod Computed
+pub mod FreeVariables
+pub mod Indices
 pub mod Lists
 pub mod Names
 pub mod Scopes
+pub mod Splits
 pub mod Terms
 pub mod Typing

@@ -1,6 +1,7 @@
 //! Types and terms of Church's type theory (Church 1940), with numbered bound variables.
 #![tactic(auto)]
 
+pub mod indices;
 pub mod letters;
 pub mod lists;
 pub mod names;
@@ -8,3 +9,4 @@ pub mod scopes;
 pub mod terms;
 pub mod types;
 pub mod typing;
+pub mod variables;
