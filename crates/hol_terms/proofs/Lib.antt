@@ -1,4 +1,7 @@
 pub mod Bodies
+pub mod FreeLaws
+pub mod IndexLaws
 pub mod Naming
 pub mod Same
+pub mod TypingLaws
 pub mod Typings

@@ -3,10 +3,14 @@
 use Rattle.std.specs.Prelude.{ℕ, ◌+◌, ◌-◌, ◌<◌, List, Bool, eqb, nat_lt, cond, ◌≡◌, ◌⊎◌}
 use Rattle.hol_terms.specs.Terms.{SimpleType, Term, free, bound, constant, application, abstraction, Variable}
 
--- d is added to each index that is at least c
+-- d is added to an index that is at least c
+abbrev pub raise_index : ℕ → ℕ → ℕ → ℕ
+raise_index d c i = cond (nat_lt i c) i (i + d)
+
+-- d is added to each loose index that is at least c
 abbrev pub raise : ℕ → ℕ → Term → Term
 raise d c (free n s) = free n s
-raise d c (bound i) = bound (cond (nat_lt i c) i (i + d))
+raise d c (bound i) = bound (raise_index d c i)
 raise d c (constant k) = constant k
 raise d c (application f a) = application (raise d c f) (raise d c a)
 raise d c (abstraction s b) = abstraction s (raise d (c + 1) b)
@@ -34,6 +38,14 @@ IsClosedBelow k (bound i) = i < k
 IsClosedBelow k (constant c) = Unit {0}
 IsClosedBelow k (application f a) = IsClosedBelow k f × IsClosedBelow k a
 IsClosedBelow k (abstraction s b) = IsClosedBelow (k + 1) b
+
+-- index k is loose in the term
+abbrev pub HasIndex : ℕ → Term → Type 0
+HasIndex k (free n s) = ⊥
+HasIndex k (bound i) = i ≡ k
+HasIndex k (constant c) = ⊥
+HasIndex k (application f a) = HasIndex k f ⊎ HasIndex k a
+HasIndex k (abstraction s b) = HasIndex (k + 1) b
 
 -- the term has no loose index
 abbrev pub IsClosed : Term → Type 0
