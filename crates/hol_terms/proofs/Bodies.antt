@@ -1,9 +1,9 @@
 -- The body of the abstraction over a variable: its instance with the variable, and that no other body has both properties.
-use Rattle.std.proofs.Common.{ℕ, zero, suc, ◌+◌, ◌-◌, ◌<◌, Bool, true, false, eqb, nat_lt, cond, ◌≡◌, ◌≢◌, refl, sym, ap, ap₂, ◌∙◌, subst, arith, inl, inr, ◌⊎◌, List}
+use Rattle.std.proofs.Common.{ℕ, ◌+◌, ◌-◌, ◌<◌, Bool, true, false, cond, ◌≡◌, ◌≢◌, refl, sym, ap, ap₂, ◌∙◌, subst, arith, inl, inr, ◌⊎◌, List}
 use Rattle.std.proofs.lemmas.Bool.Decides.{nat_tests}
 use Rattle.hol_terms.specs.Terms.{SimpleType, Term, free, bound, constant, application, abstraction}
 use Rattle.hol_terms.specs.Computed.{same_variable}
-use Rattle.hol_terms.specs.Indices.{raise, put, put_index, IsClosedBelow}
+use Rattle.hol_terms.specs.Indices.{put, put_index, IsClosedBelow}
 use Rattle.hol_terms.specs.FreeVariables.{body_over, IsFree}
 use Rattle.hol_terms.proofs.IndexLaws.{trichotomy, put_index-less, put_index-at, put_index-more}
 use Rattle.hol_terms.proofs.Same.{same_variable_of, same_variable_parts}

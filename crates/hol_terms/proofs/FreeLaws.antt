@@ -1,11 +1,11 @@
 -- The free variables of raised terms and of instances, and their list.
-use Rattle.std.proofs.Common.{ℕ, zero, suc, ◌+◌, ◌-◌, ◌<◌, ◌≤◌, List, [], ◌∷◌, ◌++◌, Bool, true, false, cond, not, filter, ◌≡◌, refl, sym, ap, subst, ◌∙◌, length, arith, inl, inr, ◌⊎◌}
-use Rattle.std.specs.Prelude.{Contains, ◌↔◌, slice_index_or}
+use Rattle.std.proofs.Common.{ℕ, zero, suc, ◌+◌, ◌<◌, List, [], ◌∷◌, ◌++◌, Bool, true, false, cond, not, ◌≡◌, refl, sym, ap, subst, ◌∙◌, length, arith, inl, inr, ◌⊎◌}
+use Rattle.std.specs.Prelude.{Contains, ◌↔◌}
 use Rattle.hol_terms.specs.Terms.{SimpleType, Term, free, bound, constant, application, abstraction, Variable}
 use Rattle.hol_terms.specs.Computed.{same_variable}
-use Rattle.hol_terms.specs.Indices.{raise, put_index, put, HasIndex}
+use Rattle.hol_terms.specs.Indices.{raise, put, HasIndex}
 use Rattle.hol_terms.specs.FreeVariables.{IsFree, occurrences, without, first_occurrences, free_variables_of}
-use Rattle.hol_terms.proofs.Same.{same_variable_only, same_variable_refl}
+use Rattle.hol_terms.proofs.Same.{same_variable_only}
 use Rattle.hol_terms.proofs.IndexLaws.{trichotomy, put_index-less, put_index-at, put_index-more}
 
 -- raising
@@ -150,5 +150,6 @@ stands_contains v (x ∷ xs) (inr h) = let p = stands_contains v xs h in (suc p.
 -- the list holds exactly the free variables
 pub free_variables-contains : (n : List ℕ) (s : SimpleType) (t : Term) → Contains (free_variables_of t) (n, s) ↔ IsFree n s t
 free_variables-contains n s t = (
-    (λ h. stands_free n s t (first_stands (n, s) (occurrences t) (contains_stands (n, s) (free_variables_of t) h))),
-    (λ h. stands_contains (n, s) (free_variables_of t) (stands_first (n, s) (occurrences t) (free_stands n s t h))))
+  (λ h. stands_free n s t (first_stands (n, s) (occurrences t) (contains_stands (n, s) (free_variables_of t) h))),
+  (λ h. stands_contains (n, s) (free_variables_of t) (stands_first (n, s) (occurrences t) (free_stands n s t h))),
+)

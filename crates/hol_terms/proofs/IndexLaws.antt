@@ -1,7 +1,7 @@
 -- Raised and replaced indices: how the two change each other's and their own results.
-use Rattle.std.proofs.Common.{ℕ, zero, suc, ◌+◌, ◌-◌, ◌<◌, ◌≤◌, Bool, eqb, nat_lt, cond, ◌≡◌, refl, sym, ap, ap₂, subst, ◌∙◌, arith, inl, inr, ◌⊎◌}
+use Rattle.std.proofs.Common.{ℕ, zero, suc, ◌+◌, ◌-◌, ◌<◌, ◌≤◌, ◌≡◌, refl, sym, ap, ap₂, subst, ◌∙◌, arith, inl, inr, ◌⊎◌}
 use Rattle.std.proofs.lemmas.Bool.Decides.{nat_tests}
-use Rattle.hol_terms.specs.Terms.{SimpleType, Term, free, bound, constant, application, abstraction}
+use Rattle.hol_terms.specs.Terms.{Term, free, bound, constant, application, abstraction}
 use Rattle.hol_terms.specs.Indices.{raise_index, raise, put_index, put, IsClosedBelow}
 
 -- of two numbers one is less, or they are equal
@@ -124,12 +124,16 @@ raise-put_index_above d c k u i below = by_place (trichotomy i k)
   where
     less : (i d c k : ℕ) → c ≤ k → i < k → raise_index d c i < k + d
     less i d c k below h = grind (arith, nat_tests)
+
     same : (i d c k : ℕ) → c ≤ k → i ≡ k → raise_index d c i ≡ k + d
     same i d c k below h = grind (arith, nat_tests)
+
     more : (i d c k : ℕ) → c ≤ k → k < i → k + d < raise_index d c i
     more i d c k below h = grind (arith, nat_tests)
+
     lowered : (i d c k : ℕ) → c ≤ k → k < i → raise_index d c (i - 1) ≡ raise_index d c i - 1
     lowered i d c k below h = grind (arith, nat_tests)
+
     by_place : (i < k) ⊎ ((i ≡ k) ⊎ (k < i)) → raise d c (put_index k u i) ≡ put_index (k + d) u (raise_index d c i)
     by_place (inl h) = ap (raise d c) (put_index-less k u i h) ∙ sym (put_index-less (k + d) u (raise_index d c i) (less i d c k below h))
     by_place (inr (inl e)) =
@@ -152,14 +156,19 @@ raise-put_index_below d k j u i = by_place (trichotomy i k)
   where
     less : (i d k j : ℕ) → i < k → raise_index d (j + k + 1) i < k
     less i d k j h = grind (arith, nat_tests)
+
     kept : (i d k j : ℕ) → i < k → raise_index d (j + k) i ≡ raise_index d (j + k + 1) i
     kept i d k j h = grind (arith, nat_tests)
+
     same : (i d k j : ℕ) → i ≡ k → raise_index d (j + k + 1) i ≡ k
     same i d k j h = grind (arith, nat_tests)
+
     more : (i d k j : ℕ) → k < i → k < raise_index d (j + k + 1) i
     more i d k j h = grind (arith, nat_tests)
+
     lowered : (i d k j : ℕ) → k < i → raise_index d (j + k) (i - 1) ≡ raise_index d (j + k + 1) i - 1
     lowered i d k j h = grind (arith, nat_tests)
+
     by_place : (i < k) ⊎ ((i ≡ k) ⊎ (k < i)) → raise d (j + k) (put_index k u i) ≡ put_index k (raise d j u) (raise_index d (j + k + 1) i)
     by_place (inl h) =
         ap (raise d (j + k)) (put_index-less k u i h) ∙ ap bound (kept i d k j h) ∙ sym (put_index-less k (raise d j u) (raise_index d (j + k + 1) i) (less i d k j h))
@@ -192,6 +201,7 @@ put-put_index j m u v i = by_place (trichotomy i j)
     above h (inr (inr g)) =
         ap (put (j + m) u) (put_index-more j v i h) ∙ put_index-more (j + m) u (i - 1) (omega arith)
         ∙ sym (put_index-more j (put m u v) (i - 1) (omega arith)) ∙ sym (ap (put j (put m u v)) (put_index-more (j + m + 1) u i g))
+
     by_place : (i < j) ⊎ ((i ≡ j) ⊎ (j < i)) → put (j + m) u (put_index j v i) ≡ put j (put m u v) (put_index (j + m + 1) u i)
     by_place (inl h) =
         ap (put (j + m) u) (put_index-less j v i h) ∙ put_index-less (j + m) u i (omega arith)

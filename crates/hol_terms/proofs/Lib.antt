@@ -1,4 +1,5 @@
 pub mod Bodies
+pub mod Collecting
 pub mod FreeLaws
 pub mod IndexLaws
 pub mod Naming

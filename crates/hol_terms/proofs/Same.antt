@@ -1,5 +1,5 @@
 -- The tests of types, names and variables decide their equality.
-use Rattle.std.proofs.Common.{ℕ, List, [], ◌∷◌, Bool, true, false, cond, eqb, ◌&&◌, ◌≡◌, ◌≢◌, refl, ap, ap₂, sym, ◌∙◌, Option, Some, None, arith}
+use Rattle.std.proofs.Common.{ℕ, List, [], ◌∷◌, Bool, true, false, cond, eqb, ◌&&◌, ◌≡◌, ◌≢◌, refl, ap, ap₂, sym, ◌∙◌, Some, None, arith}
 use Rattle.std.proofs.lemmas.Bool.Decides.{nat_tests}
 use Rattle.hol_terms.specs.Terms.{SimpleType, base_type, function_type, Variable}
 use Rattle.hol_terms.specs.Computed.{same_type, same_name, same_variable, applied}

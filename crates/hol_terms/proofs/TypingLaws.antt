@@ -1,10 +1,10 @@
 -- Types of terms: there is at most one, and it stays under raised and replaced indices and in the body over a variable.
-use Rattle.std.proofs.Common.{ℕ, zero, suc, ◌+◌, ◌-◌, ◌<◌, ◌≤◌, List, [], ◌∷◌, ◌++◌, Bool, true, false, eqb, nat_lt, cond, ◌≡◌, refl, sym, ap, subst, ◌∙◌, slice_get, Option, Some, None, length, arith, inl, inr, ◌⊎◌, add-one}
+use Rattle.std.proofs.Common.{ℕ, zero, suc, ◌+◌, ◌-◌, ◌<◌, List, [], ◌∷◌, ◌++◌, Bool, true, false, cond, ◌≡◌, refl, sym, ap, subst, ◌∙◌, slice_get, Some, length, arith, add-one}
 use Rattle.std.proofs.lemmas.Bool.Decides.{nat_tests}
 use Rattle.std.proofs.lemmas.Option.{slice_get_within}
 use Rattle.hol_terms.specs.Terms.{SimpleType, function_type, Term, free, bound, constant, application, abstraction}
 use Rattle.hol_terms.specs.Typing.{Typed}
-use Rattle.hol_terms.specs.Computed.{type_in, same_variable}
+use Rattle.hol_terms.specs.Computed.{same_variable}
 use Rattle.hol_terms.specs.Indices.{raise_index, raise, put_index, put, IsClosedBelow, IsClosed}
 use Rattle.hol_terms.specs.FreeVariables.{body_over, IsBodyOver}
 use Rattle.hol_terms.proofs.Same.{same_variable_parts}

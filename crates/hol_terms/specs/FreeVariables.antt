@@ -1,5 +1,5 @@
 -- The free variables of a term, and the body of the abstraction over one of them.
-use Rattle.std.specs.Prelude.{ℕ, ◌+◌, List, [], ◌∷◌, ◌++◌, Bool, not, filter, cond, ◌≡◌, ◌⊎◌}
+use Rattle.std.specs.Prelude.{ℕ, ◌+◌, List, [], ◌∷◌, ◌++◌, not, filter, cond, ◌≡◌, ◌⊎◌}
 use Rattle.hol_terms.specs.Terms.{SimpleType, Term, free, bound, constant, application, abstraction, Variable}
 use Rattle.hol_terms.specs.Computed.{same_variable}
 use Rattle.hol_terms.specs.Indices.{put}

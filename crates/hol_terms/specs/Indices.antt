@@ -1,7 +1,7 @@
 -- Loose indices: raised, replaced by a term, and put for a free variable. An index n points to the n-th abstraction around it,
 -- counted from 0 at the innermost one; it is loose where there are not that many.
-use Rattle.std.specs.Prelude.{ℕ, ◌+◌, ◌-◌, ◌<◌, List, Bool, eqb, nat_lt, cond, ◌≡◌, ◌⊎◌}
-use Rattle.hol_terms.specs.Terms.{SimpleType, Term, free, bound, constant, application, abstraction, Variable}
+use Rattle.std.specs.Prelude.{ℕ, ◌+◌, ◌-◌, ◌<◌, eqb, nat_lt, cond, ◌≡◌, ◌⊎◌}
+use Rattle.hol_terms.specs.Terms.{Term, free, bound, constant, application, abstraction}
 
 -- d is added to an index that is at least c
 abbrev pub raise_index : ℕ → ℕ → ℕ → ℕ

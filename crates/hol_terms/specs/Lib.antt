@@ -1,4 +1,5 @@
 pub mod Codes
+pub mod Collected
 pub mod Computed
 pub mod FreeVariables
 pub mod Indices
@@ -7,4 +8,5 @@ pub mod Names
 pub mod Scopes
 pub mod Splits
 pub mod Terms
+pub mod Truth
 pub mod Typing

@@ -6,7 +6,7 @@ ghost use Rattle.hol_terms.specs.Indices.{IsClosed, instance_of, put, raise};
 ghost use Rattle.hol_terms.specs.Terms.{plain_term, plain_type};
 
 use crate::names::Name;
-use crate::terms::{copy, Tm};
+use crate::terms::{Tm, copy};
 use crate::types::Ty;
 use std::alloc::{AllocError, Global};
 
