@@ -151,3 +151,6 @@ body_is n s t body closed h =
 pub typed_body : (n : List ℕ) (s : SimpleType) (t body : Term) (r : SimpleType) → Typed [] t r → IsBodyOver n s t body → Typed (s ∷ []) body r
 typed_body n s t body r h over =
     subst (λ (b : Term). Typed (s ∷ []) b r) (sym (body_is n s t body (typed_closed [] t r h) over)) (typed-body_over [] n s t r 0 refl h)
+
+pub one_body : (n : List ℕ) (s : SimpleType) (t b c : Term) → IsClosed t → IsBodyOver n s t b → IsBodyOver n s t c → b ≡ c
+one_body n s t b c closed hb hc = body_is n s t b closed hb ∙ sym (body_is n s t c closed hc)

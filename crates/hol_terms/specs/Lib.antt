@@ -3,6 +3,7 @@ pub mod Collected
 pub mod Computed
 pub mod FreeVariables
 pub mod Indices
+pub mod Laws
 pub mod Lists
 pub mod Names
 pub mod Scopes

@@ -2,6 +2,7 @@
 #![tactic(auto)]
 
 pub mod indices;
+pub mod laws;
 pub mod letters;
 pub mod lists;
 pub mod names;
