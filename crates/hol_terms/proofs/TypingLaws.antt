@@ -154,3 +154,6 @@ typed_body n s t body r h over =
 
 pub one_body : (n : List ℕ) (s : SimpleType) (t b c : Term) → IsClosed t → IsBodyOver n s t b → IsBodyOver n s t c → b ≡ c
 one_body n s t b c closed hb hc = body_is n s t b closed hb ∙ sym (body_is n s t c closed hc)
+
+pub typed_is_closed : (t : Term) (s : SimpleType) → Typed [] t s → IsClosed t
+typed_is_closed t s h = typed_closed [] t s h

@@ -10,8 +10,7 @@ pub fn types()
     ensures raised { RaiseKeepsType }
     ensures put { PutKeepsType }
     ensures body { BodyKeepsType }
-{
-}
+{}
 
 /// How raised and replaced indices change each other's and their own results.
 pub fn indices()
@@ -23,13 +22,11 @@ pub fn indices()
     ensures puts { PutsCommute }
     ensures raise_of_closed { RaiseOfClosed }
     ensures put_of_closed { PutOfClosed }
-{
-}
+{}
 
 /// Which variables are free in an instance and in the list of free variables, and that a term has one body over a variable.
 pub fn free_variables()
     ensures instance { FreeOfPut }
     ensures list { ListsFreeVariables }
     ensures body { HasOneBody }
-{
-}
+{}

@@ -8,6 +8,8 @@ pub mod lists;
 pub mod names;
 pub mod scopes;
 pub mod terms;
+#[cfg(test)]
+mod tests;
 pub mod types;
 pub mod typing;
 pub mod variables;
