@@ -1,7 +1,7 @@
 -- The computed type is the type of the relation.
-use Rattle.std.proofs.Common.{ℕ, List, [], ◌∷◌, Bool, true, false, cond, ◌≡◌, ◌≢◌, refl, sym, ap, ap₂, subst, ◌∙◌, slice_get, Option, Some, None}
+use Rattle.std.proofs.Common.{List, ◌∷◌, Bool, true, false, cond, ◌≡◌, refl, sym, ap, ap₂, ◌∙◌, Option, Some, None}
 use Rattle.hol_terms.specs.Terms.{SimpleType, base_type, function_type, Term, free, bound, constant, application, abstraction}
-use Rattle.hol_terms.specs.Typing.{type_of_constant, Typed}
+use Rattle.hol_terms.specs.Typing.{Typed}
 use Rattle.hol_terms.specs.Computed.{type_in, applied, abstracted, same_type}
 use Rattle.hol_terms.proofs.Same.{same_type_only, same_type_refl}
 

@@ -1,5 +1,5 @@
 -- The type of a term, after Church 1940.
-use Rattle.std.specs.Prelude.{ℕ, List, [], ◌∷◌, slice_get, Some, ◌≡◌}
+use Rattle.std.specs.Prelude.{List, [], ◌∷◌, slice_get, Some, ◌≡◌}
 use Rattle.hol_terms.specs.Terms.{SimpleType, function_type, Constant, negation, conjunction, disjunction, implication, truth, falsehood, forall, exists, Term, free, bound, constant, application, abstraction, truth_type}
 
 abbrev pub type_of_constant : Constant → SimpleType

@@ -1,0 +1,32 @@
+//! Laws of terms. The functions do nothing: what each ensures is a theorem, which the layers above may cite.
+
+ghost use Rattle.hol_terms.specs.Laws.{BodyKeepsType, FreeOfPut, HasOneBody, HasOneType, IsClosedByType, ListsFreeVariables, PutKeepsType, PutOfClosed, PutOfRaised, PutsCommute, RaiseCommutesAbove, RaiseCommutesBelow, RaiseKeepsType, RaiseOfClosed, RaisesCommute, RaisesJoin};
+
+/// A term has at most one type and no loose index without a type, and its type stays under raised and replaced indices and in
+/// the body over a variable.
+pub fn types()
+    ensures one { HasOneType }
+    ensures closed { IsClosedByType }
+    ensures raised { RaiseKeepsType }
+    ensures put { PutKeepsType }
+    ensures body { BodyKeepsType }
+{}
+
+/// How raised and replaced indices change each other's and their own results.
+pub fn indices()
+    ensures joined { RaisesJoin }
+    ensures raises { RaisesCommute }
+    ensures put_of_raised { PutOfRaised }
+    ensures above { RaiseCommutesAbove }
+    ensures below { RaiseCommutesBelow }
+    ensures puts { PutsCommute }
+    ensures raise_of_closed { RaiseOfClosed }
+    ensures put_of_closed { PutOfClosed }
+{}
+
+/// Which variables are free in an instance and in the list of free variables, and that a term has one body over a variable.
+pub fn free_variables()
+    ensures instance { FreeOfPut }
+    ensures list { ListsFreeVariables }
+    ensures body { HasOneBody }
+{}
