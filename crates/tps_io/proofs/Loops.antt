@@ -2,6 +2,7 @@
 use Rattle.std.proofs.Common.{◌≡◌, ℕ, ◌+◌, ◌-◌, ◌<◌, min, arith, [], List, length, take, drop, ◌++◌, Option, None, Some, sym, ◌∙◌, ap, append_assoc}
 use Rattle.std.proofs.lemmas.List.{take_rest, take-append-drop, drop-drop, nil_from_length, length-drop}
 use Rattle.std.specs.Io.KnownBytes.{Appends, Consumes}
+use Rattle.tps_io.specs.Stream.{TakesFront}
 
 -- appending twice appends both
 pub appends_on : (first old new : Option (List ℕ)) (front more : List ℕ) → Appends first old front → Appends old new more → Appends first new (front ++ more)
@@ -11,11 +12,15 @@ appends_on (Some xs) (Some ys) None front more a b = absurd b
 appends_on (Some xs) (Some ys) (Some zs) front more a b = b ∙ ap (λ l. l ++ more) a ∙ append_assoc xs front more
 
 -- consuming twice consumes both
-pub consumes_on : (first old new : Option (List ℕ)) (front more : List ℕ) → Consumes first old front → Consumes old new more → Consumes first new (front ++ more)
+consumes_on : (first old new : Option (List ℕ)) (front more : List ℕ) → Consumes first old front → Consumes old new more → Consumes first new (front ++ more)
 consumes_on None old new front more a b = tt
 consumes_on (Some xs) None new front more a b = absurd a
 consumes_on (Some xs) (Some ys) None front more a b = absurd b
 consumes_on (Some xs) (Some ys) (Some zs) front more a b = a ∙ ap (λ l. front ++ l) b ∙ sym (append_assoc front more zs)
+
+-- what was taken before and what one more call gave are a front
+pub front_on : (first old new : Option (List ℕ)) (front more : List ℕ) → Consumes first old front → Consumes old new more → TakesFront first new
+front_on first old new front more a b = (front ++ more, consumes_on first old new front more a b)
 
 -- the rest after a write
 pub rest_on : (bytes front rest : List ℕ) (n : ℕ) → bytes ≡ front ++ rest → bytes ≡ (front ++ take n rest) ++ take (length rest - n) (drop n rest)

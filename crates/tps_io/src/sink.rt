@@ -96,10 +96,11 @@ impl<W: Write + Drop> Sink for StdSink<W> {
 }
 
 /// A sink that takes each piece whole, keeps none of it, and never fails. It tells no bytes.
-#[derive(Drop)]
+#[derive(Clone, Copy, Debug, Default)]
 pub struct SureSink;
 
 impl SureSink {
+    /// A sink of no bytes yet.
     pub fn new() -> Self {
         SureSink
     }
@@ -206,5 +207,71 @@ impl Sink for MemSink {
             Ok(()) => Ok(count),
             Err(_) => unreachable!(),
         }
+    }
+}
+
+#[cfg(test)]
+mod tests {
+    use super::*;
+    use std::test::Fail;
+
+    fn write_once<K: Sink>(sink: &mut K, piece: &[u8]) -> Result<usize, Failed> {
+        sink.write(piece)
+    }
+
+    #[test]
+    fn each_sink_writes_through_its_bound(rt: HostRuntime) -> Result<(), Fail> {
+        let alloc = rt.alloc();
+
+        let mut pieces = MemSink::new(alloc, 3, 5, Vec::new(alloc))?;
+        assert_eq!(rt; write_once(&mut pieces, b"abcd"), Ok(3));
+        assert_eq!(rt; write_once(&mut pieces, b""), Ok(0));
+        assert_eq!(rt; write_once(&mut pieces, b"defg"), Ok(2));
+        assert_eq!(rt; write_once(&mut pieces, b""), Ok(0));
+        assert_eq!(rt; write_once(&mut pieces, b"fg"), Err(Failed));
+        assert_eq!(rt; pieces.bytes(), b"abcde".as_slice());
+
+        assert_eq!(rt; write_once(&mut SureSink::new(), b"abcd"), Ok(4));
+
+        let mut writer = StdSink::new(Vec::new(alloc));
+        assert_eq!(rt; write_once(&mut writer, b"xyz"), Ok(3));
+        assert_eq!(rt; writer.inner.as_slice(), b"xyz".as_slice());
+        Ok(())
+    }
+
+    #[test]
+    fn a_piece_of_none_is_one_byte(rt: HostRuntime) -> Result<(), Fail> {
+        let alloc = rt.alloc();
+        let mut sink = MemSink::new(alloc, 0, 2, Vec::new(alloc))?;
+        assert_eq!(rt; write_all(&mut sink, b"ab"), Ok(()));
+        assert_eq!(rt; sink.bytes(), b"ab".as_slice());
+        Ok(())
+    }
+
+    #[test]
+    fn a_second_call_that_fails_leaves_a_front(rt: HostRuntime) -> Result<(), Fail> {
+        let alloc = rt.alloc();
+        let mut sink = MemSink::new(alloc, 3, 100, vec![in alloc; 2]?)?;
+        assert_eq!(rt; write_all(&mut sink, b"abcdefgh"), Err(Failed));
+        assert_eq!(rt; sink.bytes(), b"abc".as_slice());
+
+        // The calls after it write on.
+        assert_eq!(rt; write_all(&mut sink, b"defgh"), Ok(()));
+        assert_eq!(rt; sink.bytes(), b"abcdefgh".as_slice());
+        Ok(())
+    }
+
+    #[test]
+    fn a_full_writer_fails(rt: HostRuntime) -> Result<(), Fail> {
+        let alloc = rt.alloc();
+        let mut sink = StdSink::new(Vec::new(alloc));
+        assert_eq!(rt; write_all(&mut sink, b"a writer"), Ok(()));
+        assert_eq!(rt; sink.inner.as_slice(), b"a writer".as_slice());
+
+        let mut room = [0; 3];
+        let mut full = StdSink::new(room.as_mut_slice());
+        assert_eq!(rt; write_all(&mut full, b"abcd"), Err(Failed));
+        assert_eq!(rt; full.faults, 1);
+        Ok(())
     }
 }

@@ -33,7 +33,7 @@ pub trait Source {
 }
 
 /// Why a source wasn't read to its end.
-#[derive(Debug, Drop)]
+#[derive(Clone, Copy, Debug, PartialEq, Eq)]
 pub enum ReadError {
     /// Memory ran out.
     Memory,
@@ -54,23 +54,12 @@ impl From<AllocError> for ReadError {
     }
 }
 
-impl From<Failed> for ReadError {
-    ghost use Rattle.std.specs.Prelude.{◌≡◌};
-    ghost use Rattle.tps_io.specs.declared.source.ReadError.TheVariants.{Fault};
-
-    ghost from_gives = { λ _ e. e ≡ Fault };
-
-    fn from(_: Failed) -> Self {
-        ReadError::Fault
-    }
-}
-
 /// How many bytes `read_all` asks for at a time.
 const BLOCK: usize = 8192;
 
 /// All bytes of a source up to its end. `Fault` comes exactly where a call of the source failed, and
-/// `TooLong` exactly where none did and the source has more than `max` bytes. After an error the
-/// source has lost some bytes of its front.
+/// `TooLong` exactly where none did and the source has more than `max` bytes; `Memory` comes where
+/// memory ran out. After an error the source has lost some front of its bytes.
 pub fn read_all<S: Source>(alloc: Global, source: &mut S, max: u64) -> Result<Vec<u8>, ReadError>
     ensures all { IfOk result (λ v. TakesAll (S.left source.old) (S.left source.new) v.items) }
     ensures within { IfOk result (λ v. length v.items ≤ max) }
@@ -86,7 +75,9 @@ pub fn read_all<S: Source>(alloc: Global, source: &mut S, max: u64) -> Result<Ve
     let mut bytes = Vec::new(alloc);
     let mut block = [0; BLOCK];
     loop {
-        let count = source.read(&mut block)?;
+        let Ok(count) = source.read(&mut block) else {
+            return Err(ReadError::Fault);
+        };
         if count == 0 {
             return Ok(bytes);
         }
@@ -257,7 +248,8 @@ impl Source for SureSource {
     }
 }
 
-/// Copies the bytes from a place on to the front of the buffer, at most so many and as many as fit, and answers how many.
+/// Copies the bytes from a place on to the front of the buffer, as many as fit and at most so many,
+/// and answers how many.
 fn give(bytes: &[u8], at: usize, most: usize, buf: &mut [u8]) -> usize
     requires { at ≤ length bytes.now }
     ensures count { result ≡ min (min most (length buf.old)) (length (drop at bytes.now)) }
@@ -267,4 +259,112 @@ fn give(bytes: &[u8], at: usize, most: usize, buf: &mut [u8]) -> usize
     let count = most.min(buf.len()).min(rest.len());
     buf[..count].copy_from_slice(&rest[..count]);
     count
+}
+
+#[cfg(test)]
+mod tests {
+    use super::*;
+    use std::io;
+    use std::io::ErrorKind;
+    use std::test::Fail;
+
+    /// A reader whose calls all fail.
+    #[derive(Drop)]
+    struct Broken;
+
+    impl Read for Broken {
+        fn read(&mut self, _: &mut [u8]) -> io::Result<usize> {
+            Err(ErrorKind::Other.into())
+        }
+    }
+
+    fn read_once<S: Source>(source: &mut S, buf: &mut [u8]) -> Result<usize, Failed> {
+        source.read(buf)
+    }
+
+    #[test]
+    fn each_source_reads_through_its_bound(rt: HostRuntime) -> Result<(), Fail> {
+        let alloc = rt.alloc();
+        let mut buf = [0; 4];
+
+        let mut pieces = MemSource::new(b"abcdef".to_vec(alloc)?, 3, Vec::new(alloc));
+        assert_eq!(rt; read_once(&mut pieces, &mut buf), Ok(3));
+        assert_eq!(rt; buf, *b"abc\0");
+        assert_eq!(rt; read_once(&mut pieces, &mut buf), Ok(3));
+        assert_eq!(rt; read_once(&mut pieces, &mut buf), Ok(0));
+
+        let mut sure = SureSource::new(b"abcdef".to_vec(alloc)?);
+        assert_eq!(rt; read_once(&mut sure, &mut buf), Ok(4));
+        assert_eq!(rt; buf, *b"abcd");
+        assert_eq!(rt; read_once(&mut sure, &mut buf), Ok(2));
+
+        let bytes: &[u8] = b"xyz";
+        let mut reader = StdSource::new(bytes);
+        assert_eq!(rt; read_once(&mut reader, &mut buf), Ok(3));
+        assert_eq!(rt; buf, *b"xyzd");
+        Ok(())
+    }
+
+    #[test]
+    fn a_piece_of_none_is_one_byte(rt: HostRuntime) -> Result<(), Fail> {
+        let alloc = rt.alloc();
+        let mut source = MemSource::new(b"ab".to_vec(alloc)?, 0, Vec::new(alloc));
+        assert_eq!(rt;
+            read_all(alloc, &mut source, 2)?.as_slice(),
+            b"ab".as_slice()
+        );
+        Ok(())
+    }
+
+    #[test]
+    fn reads_up_to_the_limit(rt: HostRuntime) -> Result<(), Fail> {
+        let alloc = rt.alloc();
+        let text = vec![in alloc; 7; 20_000]?;
+        for (max, fits) in [(19_999, false), (20_000, true), (20_001, true), (0, false)] {
+            let mut source = SureSource::new(text.clone()?);
+            match read_all(alloc, &mut source, max) {
+                Ok(bytes) => assert!(rt; fits && bytes.as_slice() == text.as_slice(), "at {max}"),
+                Err(error) => assert!(rt; !fits && error == ReadError::TooLong, "at {max}"),
+            }
+        }
+        let mut empty = SureSource::new(Vec::new(alloc));
+        assert!(rt; read_all(alloc, &mut empty, 0)?.is_empty());
+        Ok(())
+    }
+
+    #[test]
+    fn a_second_call_that_fails_ends_the_reading(rt: HostRuntime) -> Result<(), Fail> {
+        let alloc = rt.alloc();
+        let text = vec![in alloc; 7; 25]?;
+        let mut source = MemSource::new(text, 10, vec![in alloc; 2]?);
+        assert_eq!(rt;
+            read_all(alloc, &mut source, 100).err(),
+            Some(ReadError::Fault)
+        );
+
+        // What the first call gave is gone, and the rest can still be read.
+        assert_eq!(rt; read_all(alloc, &mut source, 100)?.len(), 15);
+
+        let mut broken = StdSource::new(Broken);
+        assert_eq!(rt;
+            read_all(alloc, &mut broken, 100).err(),
+            Some(ReadError::Fault)
+        );
+        Ok(())
+    }
+
+    #[test]
+    fn a_reader_is_read_whole(rt: HostRuntime) -> Result<(), Fail> {
+        let alloc = rt.alloc();
+        let bytes: &[u8] = b"a reader";
+        assert_eq!(rt;
+            read_all(alloc, &mut StdSource::new(bytes), 8)?.as_slice(),
+            bytes
+        );
+        assert_eq!(rt;
+            read_all(alloc, &mut StdSource::new(bytes), 7).err(),
+            Some(ReadError::TooLong)
+        );
+        Ok(())
+    }
 }

@@ -1,4 +1,4 @@
-use Rattle.std.proofs.Common.{ap, rules, min, length}
+use Rattle.std.proofs.Common.{ap, rules}
 use Rattle.tps_io.proofs.Loops.{given, ended}
 use Rattle.tps_io.specs.Memory.{Supply}
 use Rattle.tps_io.proofs.source.MemSourceSource.read.Goals as goal
@@ -12,4 +12,4 @@ returns-clause-bytes c =
     let seen = ap (λ (t : Supply). t.left) c.self.view_is in
     let front = rw (c.deref-2.ensures.value, seen) at c.give-count.ensures.front in
     let much = rw (c.deref-2.ensures.value, seen) at c.give-count.ensures.count in
-    (given left items c.give-count.new.buf at count seen front, λ none some. ended left items at count (min c.self.inside.piece (length c.args.buf.now)) seen much (search rules) none)
+    (given left items c.give-count.new.buf at count seen front, λ none some. ended left items at count _ seen much (search rules) none)
