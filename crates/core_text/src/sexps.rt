@@ -1,0 +1,29 @@
+//! Bracketed forms.
+
+/// A form of a text: a word, a numeral or a bracketed list. The last field is the place of its first byte.
+#[cycle(sexp)]
+#[derive(Drop)]
+pub enum Sexp {
+    Word(Vec<u8>, u64),
+    Number(u64, u64),
+    List(Sexps, u64),
+}
+
+/// The members of a list.
+#[cycle(sexp)]
+pub enum Sexps {
+    End,
+    More(Box<Sexp>, Box<Sexps>),
+}
+
+impl Drop for Sexps {
+    #[cycle(sexp)]
+    fn drop(mut self) {
+        loop {
+            match self {
+                Sexps::End => return,
+                Sexps::More(_, rest) => self = Box::into_inner(rest),
+            }
+        }
+    }
+}
