@@ -21,7 +21,7 @@ mutual
 -- the form that the program holds, without its pointers
 abbrev mutual
   pub placed : Sexp → Placed
-  placed (sexp.Word text k) = word_at text.items k
+  placed (sexp.Word text k) = word_at text k
   placed (sexp.Number n k) = number_at n k
   placed (sexp.List all k) = list_at (placed_all all) k
 

@@ -1,6 +1,7 @@
 -- Which words may stand in a text.
-use Rattle.std.specs.Prelude.{ℕ, ◌^◌, ◌==◌, ◌||◌, ◌&&◌, not, nat_le, nat_lt, Bool, false, if◌then◌else◌, List, [], ◌∷◌, length, Option, None, Some}
+use Rattle.std.specs.Prelude.{ℕ, ◌^◌, ◌==◌, ◌||◌, ◌&&◌, not, codes, nat_eq, nat_le, nat_lt, Bool, false, if◌then◌else◌, List, [], ◌∷◌, length, Option, None, Some}
 use Rattle.std.specs.Char.{is_ascii_digit}
+use Rattle.std.specs.Cmp.Lexicographic.{pointwise}
 use Rattle.std.specs.List.{list_all}
 use Rattle.std.specs.Str.{chars, is_utf8}
 use Rattle.std.specs.Str.Parse.{digits_value}
@@ -36,3 +37,22 @@ is_word bytes = is_utf8 bytes && (nat_le (length (chars bytes)) 64 && is_identif
 -- a word that may stand in a text
 abbrev pub is_good : List ℕ → Bool
 is_good bytes = is_numeral bytes || is_word bytes
+
+abbrev pub same_bytes : List ℕ → List ℕ → Bool
+same_bytes v w = pointwise nat_eq v w
+
+-- the words that name a connective, a constant or a binder
+abbrev pub is_reserved : List ℕ → Bool
+is_reserved w =
+    same_bytes w (codes "AND") || (same_bytes w (codes "OR") || (same_bytes w (codes "IMPLIES") || (same_bytes w (codes "EQUIV") || (same_bytes w (codes "TRUTH")
+    || (same_bytes w (codes "FALSEHOOD") || (same_bytes w (codes "FORALL") || (same_bytes w (codes "EXISTS") || same_bytes w (codes "LAMBDA"))))))))
+
+-- a word that isn't reserved; no word begins with _
+abbrev pub is_name : List ℕ → Bool
+is_name w = is_word w && not (is_reserved w)
+
+-- one letter from A to Z
+abbrev pub is_letter : List ℕ → Bool
+is_letter [] = false
+is_letter (b ∷ []) = nat_le 65 b && nat_le b 90
+is_letter (b ∷ c ∷ bs) = false

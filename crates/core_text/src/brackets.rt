@@ -13,6 +13,7 @@ use crate::faults::TextFault;
 use crate::pieces::{Piece, next_piece};
 use crate::sexps::{Sexp, Sexps};
 use crate::words::{is_word, numeral};
+use hol_terms::lists::Text;
 use std::alloc::{AllocError, Global};
 
 /// The number of brackets that may be open at once.
@@ -52,7 +53,8 @@ fn leaf(alloc: Global, bytes: &[u8], place: u64) -> Result<Sexp, TextFault>
     if !is_word(bytes) {
         return Err(TextFault::BadToken(place));
     }
-    let text = Vec::from_slice(alloc, bytes)?;
+    let mut text = Text::new(alloc);
+    text.append(bytes)?;
     Ok(Sexp::Word(text, place))
 }
 

@@ -5,4 +5,6 @@ pub mod brackets;
 pub mod faults;
 pub mod pieces;
 pub mod sexps;
+pub mod terms;
+pub mod types;
 pub mod words;

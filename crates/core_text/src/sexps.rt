@@ -1,10 +1,12 @@
 //! Bracketed forms.
 
+use hol_terms::lists::Text;
+
 /// A form of a text: a word, a numeral or a bracketed list. The last field is the place of its first byte.
 #[cycle(sexp)]
 #[derive(Drop)]
 pub enum Sexp {
-    Word(Vec<u8>, u64),
+    Word(Text, u64),
     Number(u64, u64),
     List(Sexps, u64),
 }
