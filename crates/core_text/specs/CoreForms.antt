@@ -58,10 +58,10 @@ ConstantHasLetters falsehood = Unit {0}
 ConstantHasLetters (forall s) = HasLetters s
 ConstantHasLetters (exists s) = HasLetters s
 
--- each name is a name, each letter is one from A to Z, and each index has 64 bits, as in each term that the program holds
+-- each name is a name and each letter is one from A to Z, as in each term that the program holds
 abbrev pub HasNames : Term → Type 0
 HasNames (free name s) = IsName name × HasLetters s
-HasNames (bound index) = index < 2 ^ 64
+HasNames (bound index) = Unit {0}
 HasNames (constant c) = ConstantHasLetters c
 HasNames (application f a) = HasNames f × HasNames a
 HasNames (abstraction s b) = HasLetters s × HasNames b

@@ -143,3 +143,12 @@ fn term_at(alloc: Global, s: &Sexp) -> Result<Tm, TextFault>
         }
     }
 }
+
+/// Reads a term, typed or not. `BadForm` has the place of the first form, a list before its members, that has no place in the
+/// table.
+pub fn read_preterm(alloc: Global, s: &Sexp) -> Result<Tm, TextFault>
+    ensures term { IfOk result (λ t. IsFormOfTerm (form_of s.now) (plain_term t)) }
+    ensures no_term { IfErr result (λ e. e ≢ TextFault.Memory → (t : Term) → IsFormOfTerm (form_of s.now) t → ⊥) }
+{
+    term_at(alloc, s)
+}

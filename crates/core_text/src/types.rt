@@ -48,3 +48,11 @@ pub fn type_at(alloc: Global, s: &Sexp) -> Result<Ty, TextFault>
         }
     }
 }
+
+/// Reads a type. `BadForm` has the place of the first form, a list before its members, that has no place in the table.
+pub fn read_type(alloc: Global, s: &Sexp) -> Result<Ty, TextFault>
+    ensures ty { IfOk result (λ ty. IsFormOfType (form_of s.now) (plain_type ty)) }
+    ensures no_type { IfErr result (λ e. e ≢ TextFault.Memory → (ty : SimpleType) → IsFormOfType (form_of s.now) ty → ⊥) }
+{
+    type_at(alloc, s)
+}
