@@ -1,13 +1,12 @@
 -- The test of names on bytes is the library's notion of a name.
-use Rattle.std.proofs.Common.{◌≡◌, ◌↔◌, ℕ, ◌≤◌, ◌&&◌, ◌||◌, not, Bool, true, false, IsTrue, nat_eq, nat_le, List, [], ◌∷◌, length, All, codes, refl, sym, ◌∙◌, ap, subst, inl, inr, Option, Some, None, Result, Ok, Err, arith}
-use Rattle.std.specs.Prelude.{encode_utf8_all, IsUtf8, ◌⊎◌}
+use Rattle.std.proofs.Common.{◌≡◌, ℕ, true, List, [], ◌∷◌, length, All, codes, refl, sym, ◌∙◌, ap, inl, inr, Result, Ok, Err, arith}
+use Rattle.std.specs.Prelude.{encode_utf8_all, IsUtf8}
 use Rattle.std.specs.Char.{IsScalar}
-use Rattle.std.specs.Str.{all_scalars, chars, is_utf8}
-use Rattle.std.specs.List.{list_all}
+use Rattle.std.specs.Str.{all_scalars, chars}
 use Rattle.std.proofs.lemmas.Slice.Eq.{bytes_eq-Decides}
-use Rattle.std.proofs.lemmas.Bool.{and_from, and_parts, cases_Bool, false_from_ne_true, leb-true, le-leb, or_cases, or_left, or_right, not-true, not_from_false, both_ways}
+use Rattle.std.proofs.lemmas.Bool.{and_from, and_parts, false_from_ne_true, leb-true, le-leb, or_cases, not-true, not_from_false, both_ways}
 use Rattle.std.proofs.lemmas.Str.{IsUtf8-from_is_utf8, chars-encodes, encodes-chars, encodes_same, is_utf8-from_IsUtf8}
-use Rattle.std.proofs.lemmas.List.Elements.{All-cons, All-head, All-nil, All-tail}
+use Rattle.std.proofs.lemmas.List.Elements.{All-head, All-tail}
 use Rattle.std.proofs.lemmas.List.Sums.{AllPass-from_list_all, list_all-from_AllPass}
 use Rattle.unicode_ident.specs.Ident.{is_xid_start, is_xid_continue}
 use Rattle.unicode_ident.proofs.IdentLemmas.{is_xid_start-ascii, is_xid_start-is_xid_continue}
@@ -15,7 +14,7 @@ use Rattle.hol_terms.specs.Names.{BeginsWithUnderscore, IsIdentifier, IsName, Is
 use Rattle.hol_terms.proofs.Naming.{reserved_characters, reserved_text, scalars_of_text}
 use Rattle.core_text.specs.Placed.{word_at}
 use Rattle.core_text.specs.Reading.{name_at}
-use Rattle.core_text.specs.Words.{is_identifier, is_name, is_reserved, is_word, same_bytes, starts_identifier}
+use Rattle.core_text.specs.Words.{is_identifier, is_name, is_reserved, is_word, same_bytes}
 
 pub same_bytes-refl : (w : List ℕ) → same_bytes w w ≡ true
 same_bytes-refl w = (bytes_eq-Decides w w).1 refl

@@ -1,5 +1,5 @@
 -- From what reading answers to what the program answers.
-use Rattle.std.proofs.Common.{◌≡◌, ◌≢◌, ℕ, IfErr, IfOk, Result, Ok, Err, refl, sym, ◌∙◌}
+use Rattle.std.proofs.Common.{◌≡◌, ◌≢◌, ℕ, IfErr, IfOk, Result, Ok, Err, refl}
 use Rattle.core_text.specs.Reading.{Fails, Gives}
 use Rattle.core_text.specs.declared.faults.TextFault.{TextFault}
 use Rattle.core_text.specs.declared.faults.TextFault.TheVariants.{Memory, NotUtf8, BadToken, Unbalanced, TooDeep, Trailing, BadForm, IllTyped, LooseIndex}
@@ -33,3 +33,8 @@ module _ {X A : Type 0} (view : X → A) (r : Result X TextFault) (read : Result
       go : (r : Result X TextFault) → Gives view r read → IfErr r (λ e. e ≢ Memory → (a : A) → P a → ⊥)
       go (Ok x) h = tt
       go (Err e) h = λ other a p. refused e read a other h (all a p)
+
+-- where no memory is taken
+pub surely : {X : Type 0} (r : Result X TextFault) (Q : TextFault → Type 0) → IfErr r (λ e. e ≢ Memory) → IfErr r (λ e. e ≢ Memory → Q e) → IfErr r Q
+surely (Ok x) Q other h = tt
+surely (Err e) Q other h = h other

@@ -1,6 +1,6 @@
 -- How a placed form looks, whose form is known.
-use Rattle.std.proofs.Common.{◌≡◌, ℕ, List, refl, ◌∙◌, ap}
-use Rattle.core_text.specs.Forms.{Form, word_form, number_form, list_form, Forms, no_forms, more_forms}
+use Rattle.std.proofs.Common.{◌≡◌, ℕ, List, refl, ap}
+use Rattle.core_text.specs.Forms.{Form, word_form, number_form, no_forms, more_forms}
 use Rattle.core_text.specs.Placed.{Placed, word_at, number_at, list_at, PlacedAll, none_at, more_at, form, forms}
 use Rattle.core_text.specs.CoreForms.{pair_form, triple_form}
 

@@ -1,17 +1,17 @@
 -- Reading a form answers exactly the value that the table gives it.
-use Rattle.std.proofs.Common.{◌≡◌, ℕ, ◌≤◌, ◌^◌, ◌<◌, ◌&&◌, nat_le, Bool, true, false, List, [], ◌∷◌, if◌then◌else◌, Result, Ok, Err, codes, refl, sym, ◌∙◌, ap, subst, inl, inr}
+use Rattle.std.proofs.Common.{◌≡◌, ℕ, Bool, true, false, List, [], ◌∷◌, if◌then◌else◌, Result, Ok, Err, codes, refl, sym, ◌∙◌, ap, subst, inl, inr}
 use Rattle.std.specs.Prelude.{encode_utf8_all, ◌⊎◌}
 use Rattle.std.specs.Str.{chars}
-use Rattle.std.proofs.lemmas.Bool.{and_from, and_parts, leb-true, le-leb}
+use Rattle.std.proofs.lemmas.Bool.{and_parts, leb-true, le-leb}
 use Rattle.hol_terms.specs.Names.{IsName}
 use Rattle.hol_terms.specs.Terms.{SimpleType, base_type, function_type, Constant, negation, conjunction, disjunction, implication, truth, falsehood, forall, exists, Term, free, bound, constant, application, abstraction}
-use Rattle.core_text.specs.Forms.{Form, word_form, number_form, list_form, Forms, no_forms, more_forms, IsWellSpelled}
+use Rattle.core_text.specs.Forms.{Form, word_form, number_form, list_form, Forms, no_forms, more_forms}
 use Rattle.core_text.specs.Placed.{Placed, word_at, number_at, list_at, PlacedAll, none_at, more_at, form, forms}
-use Rattle.core_text.specs.CoreForms.{ConstantHasLetters, HasLetters, HasNames, IsFormOfTerm, IsFormOfType, pair_form, triple_form, type_form, constant_form, term_form}
+use Rattle.core_text.specs.CoreForms.{ConstantHasLetters, HasLetters, HasNames, IsFormOfName, IsFormOfTerm, IsFormOfType, pair_form, triple_form, type_form, constant_form, term_form}
 use Rattle.core_text.specs.Reading.{◌>>=◌, constant_in, letter_in, name_at, number_in, pair_at, term_at, type_at, variable_at}
 use Rattle.core_text.specs.Words.{is_letter, is_name, same_bytes}
 use Rattle.core_text.proofs.NameLaws.{IsName-chars, name_found, same_bytes-only}
-use Rattle.core_text.proofs.Shapes.{IsPair, IsTriple, number_shape, pair_shape, triple_shape, word_shape}
+use Rattle.core_text.proofs.Shapes.{number_shape, pair_shape, triple_shape, word_shape}
 
 bind_ok : {A B : Type 0} (r : Result A ℕ) (f : A → Result B ℕ) (b : B) → (r >>= f) ≡ Ok b → (a : A) × (r ≡ Ok a) × (f a ≡ Ok b)
 bind_ok (Ok a) f b e = (a, refl, e)
@@ -59,7 +59,7 @@ type_spelled (function_type r s) p e h =
     rw (shape.is, type_spelled r shape.first shape.is_first h.0, type_spelled s shape.second shape.is_second h.1) refl
 
 -- a name and a number
-name_read : (p : Placed) (name : List ℕ) → name_at p ≡ Ok name → (form p ≡ word_form (encode_utf8_all name)) × IsName name
+pub name_read : (p : Placed) (name : List ℕ) → name_at p ≡ Ok name → IsFormOfName (form p) name
 name_read (number_at n k) name e = cc
 name_read (list_at fs k) name e = cc
 name_read (word_at w k) name e = go (is_name w) refl e
@@ -72,10 +72,10 @@ name_read (word_at w k) name e = go (is_name w) refl e
         subst P same (ap word_form (sym found.1), found.0)
     go false h e = cc
 
-name_spelled : (name : List ℕ) (p : Placed) → form p ≡ word_form (encode_utf8_all name) → IsName name → name_at p ≡ Ok name
+pub name_spelled : (name : List ℕ) (p : Placed) → form p ≡ word_form (encode_utf8_all name) → IsName name → name_at p ≡ Ok name
 name_spelled name p e h = let shape = word_shape p (encode_utf8_all name) e in rw shape.1 (name_found (encode_utf8_all name) name shape.0 refl h)
 
-number_read : (p : Placed) (n : ℕ) → number_in p ≡ Ok n → form p ≡ number_form n
+pub number_read : (p : Placed) (n : ℕ) → number_in p ≡ Ok n → form p ≡ number_form n
 number_read (word_at w k) n e = cc
 number_read (number_at m k) n e = cc
 number_read (list_at fs k) n e = cc
@@ -209,3 +209,34 @@ term_spelled (abstraction s b) p e h =
     let shape = triple_shape p (word_form (codes "L")) (type_form s) (term_form b) e in
     let head = word_shape shape.first (codes "L") shape.is_first in
     rw (shape.is, head.1, type_spelled s shape.second shape.is_second h.0, term_spelled b shape.third shape.is_third h.1) refl
+
+-- a form placed somewhere
+mutual
+  somewhere : (f : Form) → (p : Placed) × (form p ≡ f)
+  somewhere (word_form w) = (word_at w 0, refl)
+  somewhere (number_form n) = (number_at n 0, refl)
+  somewhere (list_form fs) = let ps = all_somewhere fs in (list_at ps.0 0, ap list_form ps.1)
+
+  all_somewhere : (fs : Forms) → (ps : PlacedAll) × (forms ps ≡ fs)
+  all_somewhere no_forms = (none_at, refl)
+  all_somewhere (more_forms f fs) = let p = somewhere f in let ps = all_somewhere fs in (more_at p.0 ps.0, rw (p.1, ps.1) refl)
+
+-- a form stands for one type at most, and for one term
+pub same_type : (f : Form) (s t : SimpleType) → IsFormOfType f s → IsFormOfType f t → s ≡ t
+same_type f s t h k =
+    let p = somewhere f in
+    let one = type_spelled s p.0 (p.1 ∙ h.0) h.1 in
+    let two = type_spelled t p.0 (p.1 ∙ k.0) k.1 in
+    let both : ◌≡◌ {A = Result SimpleType ℕ} (Ok s) (Ok t) = sym one ∙ two in
+    cc
+
+pub same_term : (f : Form) (s t : Term) → IsFormOfTerm f s → IsFormOfTerm f t → s ≡ t
+same_term f s t h k =
+    let p = somewhere f in
+    let one = term_spelled s p.0 (p.1 ∙ h.0) h.1 in
+    let two = term_spelled t p.0 (p.1 ∙ k.0) k.1 in
+    let both : ◌≡◌ {A = Result Term ℕ} (Ok s) (Ok t) = sym one ∙ two in
+    cc
+
+pub number_spelled : (n : ℕ) (p : Placed) → form p ≡ number_form n → number_in p ≡ Ok n
+number_spelled n p e = let shape = number_shape p n e in rw shape.1 refl

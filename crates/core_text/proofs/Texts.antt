@@ -10,7 +10,7 @@ use Rattle.core_text.specs.Faults.{IsFaultUnlessMemory, first_fault, form_fault}
 use Rattle.core_text.specs.declared.faults.TextFault.{TextFault}
 use Rattle.core_text.specs.declared.faults.TextFault.TheVariants.{Memory, NotUtf8, BadToken, Unbalanced, TooDeep, Trailing, BadForm, IllTyped, LooseIndex}
 use Rattle.core_text.proofs.Balance.{balanced, balanced-spelling, none-first_fault}
-use Rattle.core_text.proofs.Spellings.{token-kept, token-layout}
+use Rattle.core_text.proofs.Spellings.{same_form, token-kept, token-layout}
 
 none_is : {A : Type 0} (o : Option A) → is_none o ≡ true → o ≡ None
 none_is (Some x) h = cc
@@ -67,3 +67,8 @@ module _ (bytes : List ℕ) (utf8 : IsUtf8 bytes) where
 
 pub form_fault-not_utf8 : (bytes : List ℕ) → (IsUtf8 bytes → ⊥) → form_fault bytes ≡ Some NotUtf8
 form_fault-not_utf8 bytes h = rw (false_from_ne_true _ (λ e. h (IsUtf8-from_is_utf8 bytes e))) refl
+
+-- a text has one form at most
+pub one_form : (bytes : List ℕ) (f g : Form) → IsTextOf bytes f → IsTextOf bytes g → f ≡ g
+one_form bytes f g s t =
+    (same_form f g [] [] s.words t.words (append-nil (spelling f) ∙ sym s.spelled ∙ t.spelled ∙ sym (append-nil (spelling g)))).0

@@ -1,5 +1,5 @@
 -- The core form of types and terms: a table of forms and values.
-use Rattle.std.specs.Prelude.{◌≡◌, ℕ, ◌^◌, ◌<◌, ◌≤◌, List, [], ◌∷◌, codes, encode_utf8_all}
+use Rattle.std.specs.Prelude.{◌≡◌, ℕ, ◌≤◌, List, [], ◌∷◌, codes, encode_utf8_all}
 use Rattle.hol_terms.specs.Names.{IsName}
 use Rattle.hol_terms.specs.Terms.{SimpleType, base_type, function_type, Constant, negation, conjunction, disjunction, implication, truth, falsehood, forall, exists, Term, free, bound, constant, application, abstraction}
 use Rattle.hol_terms.specs.Typing.{Typed}
@@ -65,6 +65,10 @@ HasNames (bound index) = Unit {0}
 HasNames (constant c) = ConstantHasLetters c
 HasNames (application f a) = HasNames f × HasNames a
 HasNames (abstraction s b) = HasLetters s × HasNames b
+
+-- the form is the name
+abbrev pub IsFormOfName : Form → List ℕ → Type 0
+IsFormOfName f name = (f ≡ word_form (encode_utf8_all name)) × IsName name
 
 -- the form stands for the type
 abbrev pub IsFormOfType : Form → SimpleType → Type 0

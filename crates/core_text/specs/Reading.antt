@@ -1,9 +1,9 @@
 -- What a form stands for, or the place of the first form, a list before its members, that has no place in the table.
-use Rattle.std.specs.Prelude.{◌≡◌, ℕ, ◌||◌, Bool, if◌then◌else◌, List, [], ◌∷◌, Option, Some, None, Result, Ok, Err, codes}
+use Rattle.std.specs.Prelude.{◌≡◌, ℕ, if◌then◌else◌, List, [], ◌∷◌, Result, Ok, Err, codes}
 use Rattle.std.specs.Str.{chars}
-use Rattle.hol_terms.specs.Terms.{SimpleType, base_type, function_type, Constant, negation, conjunction, disjunction, implication, truth, falsehood, forall, exists, Term, free, bound, constant, application, abstraction}
+use Rattle.hol_terms.specs.Terms.{SimpleType, base_type, function_type, negation, conjunction, disjunction, implication, truth, falsehood, forall, exists, Term, free, bound, constant, application, abstraction}
 use Rattle.core_text.specs.Words.{is_letter, is_name, same_bytes}
-use Rattle.core_text.specs.Placed.{Placed, word_at, number_at, list_at, PlacedAll, none_at, more_at}
+use Rattle.core_text.specs.Placed.{Placed, word_at, number_at, list_at, none_at, more_at}
 use Rattle.core_text.specs.declared.faults.TextFault.{TextFault}
 use Rattle.core_text.specs.declared.faults.TextFault.TheVariants.{Memory, NotUtf8, BadToken, Unbalanced, TooDeep, Trailing, BadForm, IllTyped, LooseIndex}
 

@@ -1,5 +1,8 @@
 //! Bracketed forms.
 
+ghost use Rattle.std.specs.Prelude.{◌≡◌};
+ghost use Rattle.core_text.specs.Placed.{place_of, placed};
+
 use hol_terms::lists::Text;
 
 /// A form of a text: a word, a numeral or a bracketed list. The last field is the place of its first byte.
@@ -26,6 +29,19 @@ impl Drop for Sexps {
                 Sexps::End => return,
                 Sexps::More(_, rest) => self = Box::into_inner(rest),
             }
+        }
+    }
+}
+
+impl Sexp {
+    /// The place of the first byte, counted in bytes from 0.
+    pub fn place(&self) -> u64
+        ensures { result ≡ place_of (placed self.now) }
+    {
+        match self {
+            Sexp::Word(_, place) => *place,
+            Sexp::Number(_, place) => *place,
+            Sexp::List(_, place) => *place,
         }
     }
 }

@@ -1,8 +1,9 @@
 //! Reads the core form of terms.
 
-ghost use Rattle.std.specs.Prelude.{◌≡◌, ◌≢◌, IfErr, IfOk};
+ghost use Rattle.std.specs.Prelude.{◌≡◌, ◌≢◌, IfErr, IfOk, List, ℕ};
 ghost use Rattle.hol_terms.specs.Terms.{Term, constant, plain_constant, plain_term};
-ghost use Rattle.core_text.specs.CoreForms.{IsFormOfTerm};
+ghost use Rattle.core_text.specs.CoreForms.{IsFormOfName, IsFormOfTerm, IsFormOfTyped};
+ghost use Rattle.core_text.specs.Forms.{number_form};
 ghost use Rattle.core_text.specs.Placed.{form_of, placed, word_at};
 ghost use Rattle.core_text.specs.Reading.{Gives, constant_in, name_at, number_in, pair_at, term_at, variable_at};
 ghost use Rattle.core_text.specs.Words.{same_bytes};
@@ -12,6 +13,7 @@ use crate::sexps::{Sexp, Sexps};
 use crate::types::type_at;
 use hol_terms::names::{Name, NameFault};
 use hol_terms::terms::{Con, Tm};
+use hol_terms::typing::type_of;
 use std::alloc::Global;
 
 /// Whether the bytes are the word.
@@ -48,7 +50,8 @@ fn name_at(alloc: Global, s: &Sexp) -> Result<Name, TextFault>
 
 /// The number of a form.
 fn number_in(s: &Sexp) -> Result<u64, TextFault>
-    ensures { Gives (λ n. n) result (number_in (placed s.now)) }
+    ensures number { Gives (λ n. n) result (number_in (placed s.now)) }
+    ensures no_memory { IfErr result (λ e. e ≢ TextFault.Memory) }
 {
     match s {
         Sexp::Word(_, place) => Err(TextFault::BadForm(*place)),
@@ -151,4 +154,32 @@ pub fn read_preterm(alloc: Global, s: &Sexp) -> Result<Tm, TextFault>
     ensures no_term { IfErr result (λ e. e ≢ TextFault.Memory → (t : Term) → IsFormOfTerm (form_of s.now) t → ⊥) }
 {
     term_at(alloc, s)
+}
+
+/// Reads a name. `BadForm` comes at the place of a form that isn't one.
+pub fn read_name(alloc: Global, s: &Sexp) -> Result<Name, TextFault>
+    ensures name { IfOk result (λ name. IsFormOfName (form_of s.now) name) }
+    ensures no_name { IfErr result (λ e. e ≢ TextFault.Memory → (name : List ℕ) → IsFormOfName (form_of s.now) name → ⊥) }
+{
+    name_at(alloc, s)
+}
+
+/// Reads a number. `BadForm` comes at the place of a form that isn't one.
+pub fn read_number(s: &Sexp) -> Result<u64, TextFault>
+    ensures number { IfOk result (λ n. form_of s.now ≡ number_form n) }
+    ensures no_number { IfErr result (λ e. (n : ℕ) → form_of s.now ≡ number_form n → ⊥) }
+{
+    number_in(s)
+}
+
+/// Reads a term that has a type and no loose index.
+pub fn read_term(alloc: Global, s: &Sexp) -> Result<Tm, TextFault>
+    ensures term { IfOk result (λ t. IsFormOfTyped (form_of s.now) (plain_term t)) }
+    ensures no_term { IfErr result (λ e. e ≢ TextFault.Memory → (t : Term) → IsFormOfTyped (form_of s.now) t → ⊥) }
+{
+    let t = read_preterm(alloc, s)?;
+    match type_of(alloc, &t)? {
+        Some(_) => Ok(t),
+        None => Err(TextFault::IllTyped(s.place())),
+    }
 }
