@@ -1,0 +1,10 @@
+pub mod Balance
+pub mod Identifiers
+pub mod NameLaws
+pub mod Numerals
+pub mod Results
+pub mod Runs
+pub mod Shapes
+pub mod Spellings
+pub mod Table
+pub mod Texts

@@ -1,0 +1,9 @@
+pub mod CoreForms
+pub mod Faults
+pub mod Forms
+pub mod Lexed
+pub mod Open
+pub mod Placed
+pub mod Reading
+pub mod Tokens
+pub mod Words
