@@ -1,0 +1,2 @@
+pub mod Matings
+pub mod Partners
