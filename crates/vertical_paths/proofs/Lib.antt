@@ -1,2 +1,6 @@
 pub mod Counts
 pub mod Rows
+pub mod Joined
+pub mod Closing
+pub mod Chains
+pub mod Passing

@@ -1,5 +1,5 @@
 -- What a walk along a path keeps at hand: how often each leaf is on the path, and with which leaves pairs join it.
-use Rattle.std.specs.Prelude.{◌≡◌, ℕ, ◌==◌, if◌then◌else◌, List, [], ◌∷◌, ◌++◌, map, Vec, count_by, slice_index}
+use Rattle.std.specs.Prelude.{◌≡◌, ◌<◌, ℕ, ◌==◌, if◌then◌else◌, List, [], ◌∷◌, ◌++◌, map, length, Vec, count_by, slice_index, slice_index_or}
 use Rattle.std.specs.List.{flat_map}
 use Rattle.std.specs.declared.alloc.Global.{Global}
 
@@ -20,5 +20,10 @@ abbrev pub partners : List (ℕ × ℕ) → ℕ → List ℕ
 partners pairs leaf = flat_map (λ pair. partners_in pair leaf) pairs
 
 -- the rows of a table, as lists
-abbrev pub row_lists : Vec (Vec ℕ Global) Global → List (List ℕ)
-row_lists rows = map (λ (row : Vec ℕ Global). row.items) rows.items
+abbrev pub row_lists : List (Vec ℕ Global) → List (List ℕ)
+row_lists rows = map (λ (row : Vec ℕ Global). row.items) rows
+
+-- at each number below the bound stand the partners of that leaf
+pub record ArePartnerRows (bound : ℕ) (pairs : List (ℕ × ℕ)) (rows : List (Vec ℕ Global)) : Type 0 where
+  pub many : length rows ≡ bound
+  pub each : (leaf : ℕ) → leaf < bound → slice_index_or (row_lists rows) leaf [] ≡ partners pairs leaf

@@ -3,3 +3,4 @@
 
 mod partners;
 mod prefixes;
+mod walk;

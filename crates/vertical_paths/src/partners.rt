@@ -1,7 +1,7 @@
 //! With which leaves the pairs of a mating join each leaf.
 
 ghost use Rattle.std.specs.Prelude.{◌≡◌, ◌<◌, ◌==◌, ◌++◌, ◌∷◌, ℕ, IfOk, OnOk, length, slice_index_or, [], if◌then◌else◌};
-ghost use Rattle.vertical_paths.specs.Partners.{partners, row_lists};
+ghost use Rattle.vertical_paths.specs.Partners.{ArePartnerRows, row_lists};
 
 use std::alloc::{AllocError, Global};
 
@@ -11,8 +11,7 @@ pub fn partner_rows(
     bound: usize,
     pairs: &[(u64, u64)],
 ) -> Result<Vec<Vec<u64>>, AllocError>
-    ensures bound { IfOk result (λ rows. length rows.items ≡ bound) }
-    ensures rows { IfOk result (λ rows. (leaf : ℕ) → leaf < bound → slice_index_or (row_lists rows) leaf [] ≡ partners pairs.now leaf) }
+    ensures { IfOk result (λ rows. ArePartnerRows bound pairs.now rows.items) }
 {
     let mut rows = empty_rows(alloc, bound)?;
     for pair in pairs {
@@ -25,7 +24,7 @@ pub fn partner_rows(
 /// This many rows without a partner.
 fn empty_rows(alloc: Global, bound: usize) -> Result<Vec<Vec<u64>>, AllocError>
     ensures bound { IfOk result (λ rows. length rows.items ≡ bound) }
-    ensures rows { IfOk result (λ rows. (leaf : ℕ) → slice_index_or (row_lists rows) leaf [] ≡ []) }
+    ensures rows { IfOk result (λ rows. (leaf : ℕ) → slice_index_or (row_lists rows.items) leaf [] ≡ []) }
 {
     let mut rows = Vec::with_capacity(alloc, bound)?;
     for _ in 0..bound {
@@ -37,7 +36,7 @@ fn empty_rows(alloc: Global, bound: usize) -> Result<Vec<Vec<u64>>, AllocError>
 /// Puts a partner behind the others of the leaf, where it has a row.
 fn put(rows: &mut Vec<Vec<u64>>, leaf: u64, partner: u64) -> Result<(), AllocError>
     ensures bound { length rows.new.items ≡ length rows.old.items }
-    ensures row { OnOk result ((n : ℕ) → n < length rows.old.items → slice_index_or (row_lists rows.new) n [] ≡ slice_index_or (row_lists rows.old) n [] ++ (if leaf == n then partner ∷ [] else [])) }
+    ensures row { OnOk result ((n : ℕ) → n < length rows.old.items → slice_index_or (row_lists rows.new.items) n [] ≡ slice_index_or (row_lists rows.old.items) n [] ++ (if leaf == n then partner ∷ [] else [])) }
 {
     if let Some(row) = rows.get_mut(leaf as usize) {
         row.push(partner)?;

@@ -1,6 +1,7 @@
 //! The part of a path that was walked.
 
-ghost use Rattle.std.specs.Prelude.{◌≡◌, ◌+◌, ◌<◌, ◌++◌, ◌∷◌, [], IfOk, OnOk, length, take};
+ghost use Rattle.std.specs.Prelude.{◌≡◌, ◌+◌, ◌<◌, ◌++◌, ◌∷◌, [], ◌==◌, ◌||◌, IfOk, OnOk, length, take};
+ghost use Rattle.std.specs.List.{list_any};
 ghost use Rattle.vertical_paths.specs.Matings.{is_on};
 ghost use Rattle.vertical_paths.specs.Partners.{AreCounts};
 
@@ -35,6 +36,16 @@ impl Prefix {
             Some(count) => *count > 0,
             None => false,
         }
+    }
+
+    /// Whether the leaf, with these partners, would stand beside one of them here.
+    pub fn meets(&self, leaf: u64, partners: &[u64]) -> bool
+        requires { AreCounts self.now.counts.items self.now.leaves.items }
+        ensures { result ≡ list_any (λ partner. (partner == leaf) || is_on self.now.leaves.items partner) partners.now }
+    {
+        partners
+            .iter()
+            .any(|partner| *partner == leaf || self.has(*partner))
     }
 
     /// Puts a leaf behind the others.

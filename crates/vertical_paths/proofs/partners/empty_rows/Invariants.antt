@@ -5,5 +5,5 @@ use Rattle.vertical_paths.proofs.partners.empty_rows.Given as goal
 abbrev pub invariant-loop : goal.invariant-loop
 invariant-loop l = record {
   bound : length l.rows.items ≡ l.counter;
-  rows : (leaf : ℕ) → slice_index_or (row_lists l.rows) leaf [] ≡ [];
+  rows : (leaf : ℕ) → slice_index_or (row_lists l.rows.items) leaf [] ≡ [];
 }

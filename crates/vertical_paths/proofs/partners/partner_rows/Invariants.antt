@@ -5,5 +5,5 @@ use Rattle.vertical_paths.proofs.partners.partner_rows.Given as goal
 abbrev pub invariant-loop-pair : goal.invariant-loop-pair
 invariant-loop-pair l = record {
   bound : length l.rows.items ≡ l.bound;
-  rows : (leaf : ℕ) → leaf < l.bound → slice_index_or (row_lists l.rows) leaf [] ≡ partners (take l.pair-index l.pairs) leaf;
+  rows : (leaf : ℕ) → leaf < l.bound → slice_index_or (row_lists l.rows.items) leaf [] ≡ partners (take l.pair-index l.pairs) leaf;
 }

@@ -6,7 +6,7 @@ use Rattle.vertical_paths.proofs.partners.put.Goals as goal
 
 pub returns-in_ok-push-clause-row : goal.returns-in_ok-push-clause-row
 returns-in_ok-push-clause-row c n h =
-    let rows = row_lists c.args.rows.now in
+    let rows = row_lists c.args.rows.now.items in
     let list : Vec ℕ Global → List ℕ = λ row. row.items in
     let row = c.in-Some.row.now in
     let item = c.in-Some.ensures.item.3 in
