@@ -1,6 +1,9 @@
 //! Expansion trees (Miller 1987), the formulas at which they stand, and their leaves and paths.
 #![tactic(auto)]
 
+pub mod faults;
+pub mod fit;
+pub mod fitted;
 pub mod matings;
 pub mod matrices;
 pub mod trees;

@@ -54,3 +54,11 @@ plain_term (Bound index) = bound index
 plain_term (Logical con) = constant (plain_constant con)
 plain_term (App' p f q a) = application (plain_term f) (plain_term a)
 plain_term (Lam' ty p b) = abstraction (plain_type ty) (plain_term b)
+
+-- a variable: a name together with a type
+abbrev pub Variable : Type 0
+Variable = List ℕ × SimpleType
+
+-- the plain pair of a variable
+abbrev pub plain_variable : List ℕ × Ty → Variable
+plain_variable variable = (variable.0, plain_type variable.1)

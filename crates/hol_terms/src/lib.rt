@@ -2,6 +2,9 @@
 #![tactic(auto)]
 
 pub mod letters;
+pub mod lists;
 pub mod names;
+pub mod scopes;
 pub mod terms;
 pub mod types;
+pub mod typing;
