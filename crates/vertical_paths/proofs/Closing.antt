@@ -1,5 +1,5 @@
 -- When a path holds a pair.
-use Rattle.std.proofs.Common.{◌≡◌, ℕ, ◌==◌, List, [], ◌∷◌, ◌++◌, take, drop, Bool, true, false, not, ◌&&◌, ◌||◌, cond, Some, None, refl, sym, ◌∙◌, ap, inl, inr}
+use Rattle.std.proofs.Common.{◌≡◌, ℕ, ◌==◌, List, [], ◌∷◌, ◌++◌, take, drop, Bool, true, false, not, ◌&&◌, ◌||◌, cond, Option, Some, None, IsNone, is_some, ◌↔◌, suc, arith, refl, sym, ◌∙◌, ap, inl, inr}
 use Rattle.std.specs.List.{list_any}
 use Rattle.std.specs.Option.{option_or}
 use Rattle.std.proofs.lemmas.List.{append-nil, take-append-drop}
@@ -131,3 +131,18 @@ leaf_stops pairs prefix leaf rest others h met =
 -- at the end of the path the prefix is the first open path
 pub end_is_open : (pairs : List (ℕ × ℕ)) (prefix : List ℕ) (others : List (List ℕ)) → is_closed pairs prefix ≡ false → first_open pairs (behind prefix ([] ∷ []) ++ others) ≡ Some prefix
 end_is_open pairs prefix others h = rw (append-nil, h) refl
+
+pub none_from_spans : (pairs : List (ℕ × ℕ)) (ps : List (List ℕ)) → Spans pairs ps → first_open pairs ps ≡ None
+none_from_spans pairs [] h = refl
+none_from_spans pairs (p ∷ ps) h =
+    let closed : is_closed pairs p ≡ true = h 0 p (omega arith) in
+    let rest : Spans pairs ps = λ k d less. h (suc k) d (omega (arith, less)) in
+    rw closed (none_from_spans pairs ps rest)
+
+-- none is open exactly where the mating spans
+pub none_open_iff_spans : (pairs : List (ℕ × ℕ)) (ps : List (List ℕ)) → IsNone (first_open pairs ps) ↔ Spans pairs ps
+none_open_iff_spans pairs ps = (λ none. spans-from_none pairs ps (none_is (first_open pairs ps) none), λ spans. ap is_some (none_from_spans pairs ps spans))
+  where
+    none_is : (o : Option (List ℕ)) → IsNone o → o ≡ None
+    none_is None h = refl
+    none_is (Some x) h = cc

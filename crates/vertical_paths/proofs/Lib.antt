@@ -4,3 +4,4 @@ pub mod Joined
 pub mod Closing
 pub mod Chains
 pub mod Passing
+pub mod Pairs
