@@ -1,0 +1,3 @@
+pub mod Matings
+pub mod Partners
+pub mod Walks
