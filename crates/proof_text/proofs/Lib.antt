@@ -1,0 +1,3 @@
+pub mod Mated
+pub mod ProofForms
+pub mod TreeForms

@@ -1,0 +1,4 @@
+pub mod Computed
+pub mod Forms
+pub mod Texts
+pub mod Views

@@ -1,0 +1,6 @@
+//! Proof texts: a formula, an expansion tree and a mating as one bracketed form.
+#![tactic(auto)]
+
+pub mod matings;
+pub mod texts;
+pub mod trees;
