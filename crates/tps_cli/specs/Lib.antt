@@ -1,0 +1,5 @@
+pub mod Proofs
+pub mod Results
+pub mod Runs
+pub mod Statuses
+pub mod Words

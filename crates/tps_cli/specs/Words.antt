@@ -1,0 +1,12 @@
+-- The words of the commands.
+use Rattle.std.specs.Prelude.{◌≡◌, ℕ, List, [], ◌∷◌, map, codes, string_bytes, String}
+use Rattle.std.specs.declared.alloc.Global.{Global}
+use Rattle.tps_cli.specs.declared.command.Command.{Command}
+use Rattle.tps_cli.specs.declared.command.Command.TheVariants.{Check}
+
+abbrev pub words_of : Command → List (List ℕ)
+words_of Check = codes "check" ∷ []
+
+-- the words are those of a command
+abbrev pub AreWords : List (String Global) → Type 0
+AreWords words = (c : Command) × (map string_bytes words ≡ words_of c)

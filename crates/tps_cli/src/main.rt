@@ -1,0 +1,38 @@
+//! The program `tps`.
+#![tactic(auto)]
+
+mod check;
+mod command;
+mod run;
+mod status;
+
+use crate::run::run;
+use std::env;
+use std::process::ExitCode;
+use tps_io::sink::StdSink;
+use tps_io::source::StdSource;
+
+/// The exit code where memory is wanting for the words.
+const NO_MEMORY: u8 = 7;
+
+/// The exit code where the system refuses the words.
+const NO_WORDS: u8 = 8;
+
+/// Runs the program on its words, the standard input and the standard output, and ends with the status as its exit code.
+fn main(rt: HostRuntime) -> ExitCode {
+    let alloc = rt.alloc();
+    let mut words = Vec::new(alloc);
+    match env::args(&rt) {
+        Ok(args) => {
+            for word in args.skip(1) {
+                if words.push(word).is_err() {
+                    return ExitCode::from(NO_MEMORY);
+                }
+            }
+        }
+        Err(_) => return ExitCode::from(NO_WORDS),
+    }
+    let mut source = StdSource::new(rt.stdin());
+    let mut sink = StdSink::new(rt.stdout());
+    ExitCode::from(run(alloc, &words, &mut source, &mut sink).code())
+}
