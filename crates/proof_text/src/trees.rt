@@ -3,8 +3,8 @@
 ghost use Rattle.std.specs.Prelude.{◌≡◌, IfOk, ℕ};
 ghost use Rattle.std.specs.Option.{option_map};
 ghost use Rattle.core_text.specs.Placed.{form_of};
-ghost use Rattle.expansion_tree.specs.Trees.{plain_tree};
-ghost use Rattle.proof_text.specs.Computed.{constant_tree, op_of, tree_of};
+ghost use Rattle.expansion_tree.specs.Trees.{negation_node, plain_tree};
+ghost use Rattle.proof_text.specs.Computed.{compound as compound_tree, constant_tree, op_of, tree_of};
 
 use core_text::sexps::{Sexp, Sexps};
 use core_text::terms::is_keyword;
@@ -39,6 +39,35 @@ fn word_tree(word: &[u8]) -> Option<Tree>
     }
 }
 
+/// The negation of a tree, where there is one.
+fn negation(alloc: Global, part: Option<Tree>) -> Result<Option<Tree>, AllocError>
+    ensures { IfOk result (λ tree. option_map plain_tree tree ≡ option_map negation_node (option_map plain_tree part)) }
+{
+    match part {
+        Some(tree) => Ok(Some(Tree::Not(Box::new(alloc, tree)?))),
+        None => Ok(None),
+    }
+}
+
+/// The compound of two trees, where there are a connective and both of them.
+fn compound(
+    alloc: Global,
+    op: Option<Op>,
+    left: Option<Tree>,
+    right: Option<Tree>,
+) -> Result<Option<Tree>, AllocError>
+    ensures { IfOk result (λ tree. option_map plain_tree tree ≡ compound_tree op (option_map plain_tree left) (option_map plain_tree right)) }
+{
+    match (op, left, right) {
+        (Some(op), Some(left), Some(right)) => {
+            let left = Box::new(alloc, left)?;
+            let right = Box::new(alloc, right)?;
+            Ok(Some(Tree::Bin(op, left, right)))
+        }
+        _ => Ok(None),
+    }
+}
+
 /// The tree without selections and expansions that the form spells, `None` exactly where it spells none.
 pub fn read_tree(alloc: Global, form: &Sexp) -> Result<Option<Tree>, AllocError>
     ensures { IfOk result (λ tree. option_map plain_tree tree ≡ tree_of (form_of form.now)) }
@@ -61,24 +90,12 @@ pub fn read_tree(alloc: Global, form: &Sexp) -> Result<Option<Tree>, AllocError>
         if !is_keyword(word.as_slice(), b"NOT") {
             return Ok(None);
         }
-        return match read_tree(alloc, first)? {
-            Some(tree) => Ok(Some(Tree::Not(Box::new(alloc, tree)?))),
-            None => Ok(None),
-        };
+        return negation(alloc, read_tree(alloc, first)?);
     };
     let Sexps::End = &**rest else {
         return Ok(None);
     };
-    let Some(op) = connective(word.as_slice()) else {
-        return Ok(None);
-    };
-    let Some(left) = read_tree(alloc, first)? else {
-        return Ok(None);
-    };
-    let Some(right) = read_tree(alloc, second)? else {
-        return Ok(None);
-    };
-    let left = Box::new(alloc, left)?;
-    let right = Box::new(alloc, right)?;
-    Ok(Some(Tree::Bin(op, left, right)))
+    let left = read_tree(alloc, first)?;
+    let right = read_tree(alloc, second)?;
+    compound(alloc, connective(word.as_slice()), left, right)
 }
