@@ -237,3 +237,104 @@ pub fn first_open_path(
     }
     Ok(Some(walk.prefix.leaves))
 }
+
+#[cfg(test)]
+mod tests {
+    use super::*;
+    use std::test::Fail;
+
+    /// One leaf.
+    fn leaf(alloc: Global, k: u64) -> Result<Box<Matrix>, AllocError>
+        ensures { IfOk result (λ matrix. (n : ℕ) → 1 ≤ k → k ≤ n → IsNumberedTo n matrix.value) }
+    {
+        Ok(Box::new(alloc, Matrix::Leaf(k))?)
+    }
+
+    /// The leaves from 1 to `n` in one path, each above all that come after it.
+    fn down_right(alloc: Global, n: u64) -> Result<Matrix, AllocError>
+        ensures { IfOk result (λ matrix. IsNumberedTo n matrix) }
+    {
+        let mut matrix = Matrix::Empty;
+        for k in 0..n {
+            matrix = Matrix::Above(leaf(alloc, n - k)?, Box::new(alloc, matrix)?);
+        }
+        Ok(matrix)
+    }
+
+    /// The same path, where all that come before a leaf stand above it.
+    fn down_left(alloc: Global, n: u64) -> Result<Matrix, AllocError>
+        ensures { IfOk result (λ matrix. IsNumberedTo n matrix) }
+    {
+        let mut matrix = Matrix::Empty;
+        for k in 0..n {
+            matrix = Matrix::Above(Box::new(alloc, matrix)?, leaf(alloc, k + 1)?);
+        }
+        Ok(matrix)
+    }
+
+    /// Two leaves beside each other.
+    fn two(alloc: Global, i: u64, j: u64) -> Result<Matrix, AllocError>
+        ensures { IfOk result (λ matrix. (n : ℕ) → 1 ≤ i → i ≤ n → 1 ≤ j → j ≤ n → IsNumberedTo n matrix) }
+    {
+        Ok(Matrix::Beside(leaf(alloc, i)?, leaf(alloc, j)?))
+    }
+
+    /// Whether leaf 1 or 2 above leaf 3 or 4 has the first open path with these leaves, or none where there are none.
+    fn is_first_open(
+        alloc: Global,
+        pairs: &[(u64, u64)],
+        leaves: &[u64],
+    ) -> Result<bool, AllocError> {
+        let upper = Box::new(alloc, two(alloc, 1, 2)?)?;
+        let lower = Box::new(alloc, two(alloc, 3, 4)?)?;
+        match first_open_path(alloc, &Matrix::Above(upper, lower), 4, pairs)? {
+            Some(path) => Ok(path.as_slice() == leaves),
+            None => Ok(leaves.is_empty()),
+        }
+    }
+
+    /// How long the first open path is, where one pair is given, or 0 where there is none.
+    fn open_length(
+        alloc: Global,
+        matrix: &Matrix,
+        n: u64,
+        pair: (u64, u64),
+    ) -> Result<usize, AllocError>
+        requires { IsNumberedTo n matrix.now }
+    {
+        match first_open_path(alloc, matrix, n, &[pair])? {
+            Some(path) => Ok(path.len()),
+            None => Ok(0),
+        }
+    }
+
+    #[test]
+    fn two_above_two(rt: HostRuntime) -> Result<(), Fail> {
+        for (pairs, leaves) in [
+            ([(0, 1), (5, 3)], [1, 3]),
+            ([(1, 3), (2, 4)], [1, 4]),
+            ([(1, 3), (4, 1)], [2, 3]),
+            ([(1, 1), (3, 2)], [2, 4]),
+        ] {
+            assert!(rt; is_first_open(rt.alloc(), &pairs, &leaves)?);
+        }
+        assert!(rt; is_first_open(rt.alloc(), &[(1, 1), (2, 2)], &[])?);
+        Ok(())
+    }
+
+    #[test]
+    fn long_right(rt: HostRuntime) -> Result<(), Fail> {
+        let matrix = down_right(rt.alloc(), 80000)?;
+        assert_eq!(rt; open_length(rt.alloc(), &matrix, 80000, (0, 80000))?, 80000);
+        assert_eq!(rt; open_length(rt.alloc(), &matrix, 80000, (80000, 1))?, 0);
+        Ok(())
+    }
+
+    #[test]
+    fn long_left(rt: HostRuntime) -> Result<(), Fail> {
+        let matrix = down_left(rt.alloc(), 5000)?;
+        assert_eq!(rt; open_length(rt.alloc(), &matrix, 5000, (0, 5000))?, 5000);
+        assert_eq!(rt; open_length(rt.alloc(), &matrix, 5000, (1, 5000))?, 0);
+        Ok(())
+    }
+}
