@@ -49,7 +49,8 @@ pub fn bad_pair(fitted: &Fitted, mating: &Mating) -> Option<u64>
     None
 }
 
-/// The first path of the fitted tree that holds no pair of the mating, as its leaf numbers; `None` where the mating spans.
+/// The first path of the fitted tree that holds no pair of the mating, as its leaf numbers, from 1; `None` where the mating spans.
+/// An `Err` is want of memory.
 pub fn first_open(
     alloc: Global,
     fitted: &Fitted,

@@ -6,7 +6,7 @@ ghost use Rattle.std.specs.declared.alloc.Global.{Global};
 ghost use Rattle.expansion_tree.specs.Matrices.{joined, matrix_paths, IsNumberedTo};
 ghost use Rattle.vertical_paths.specs.Matings.{first_open as first_open_of, is_closed};
 ghost use Rattle.vertical_paths.specs.Partners.{ArePartnerRows};
-ghost use Rattle.vertical_paths.specs.Walks.{steps, IsWalk, IsOpenFor, paths_from, steps_from, choice_paths, choice_steps, untried_by, untried, steps_ahead, chain};
+ghost use Rattle.vertical_paths.specs.Walks.{steps, IsWalk, IsOpenFor, paths_via, steps_via, choice_paths, choice_steps, untried_by, untried, steps_ahead, chain};
 
 use crate::partners::partner_rows;
 use crate::prefixes::Prefix;
@@ -121,10 +121,10 @@ impl<'m> Walk<'m> {
         requires rest { rest ≤ length self.old.tasks.items }
         ensures walk { OnOk result (IsWalk self.new) }
         ensures bound { OnOk result (length self.new.prefix.counts.items ≡ length self.old.prefix.counts.items) }
-        ensures steps { result ≡ Ok true → steps_ahead self.new ≡ steps_from self.old rest + choice_steps self.old }
-        ensures goes_on { result ≡ Ok true → untried self.new ≡ untried_by self.old (joined ((leaf ∷ []) ∷ []) (paths_from self.old rest)) }
+        ensures steps { result ≡ Ok true → steps_ahead self.new ≡ steps_via self.old rest + choice_steps self.old }
+        ensures goes_on { result ≡ Ok true → untried self.new ≡ untried_by self.old (joined ((leaf ∷ []) ∷ []) (paths_via self.old rest)) }
         ensures open { (pairs : List (ℕ × ℕ)) → IsOpenFor pairs rows.now self.old → OnOk result (IsOpenFor pairs rows.now self.new) }
-        ensures stops { result ≡ Ok false → (pairs : List (ℕ × ℕ)) → IsOpenFor pairs rows.now self.old → first_open_of pairs (untried_by self.old (joined ((leaf ∷ []) ∷ []) (paths_from self.old rest))) ≡ first_open_of pairs (choice_paths self.old) }
+        ensures stops { result ≡ Ok false → (pairs : List (ℕ × ℕ)) → IsOpenFor pairs rows.now self.old → first_open_of pairs (untried_by self.old (joined ((leaf ∷ []) ∷ []) (paths_via self.old rest))) ≡ first_open_of pairs (choice_paths self.old) }
         ensures kept { result ≡ Ok false → self.new ≡ self.old }
     {
         if self.prefix.meets(leaf, &rows[leaf as usize]) {
@@ -148,8 +148,8 @@ impl<'m> Walk<'m> {
         requires rest { rest ≤ length self.old.tasks.items }
         ensures walk { OnOk result (IsWalk self.new) }
         ensures prefix { self.new.prefix ≡ self.old.prefix }
-        ensures paths { OnOk result (untried self.new ≡ untried_by self.old (joined (matrix_paths first.now ++ matrix_paths second.now) (paths_from self.old rest))) }
-        ensures steps { OnOk result (steps_ahead self.new ≡ steps first.now (steps_from self.old rest) + (steps second.now (steps_from self.old rest) + choice_steps self.old)) }
+        ensures paths { OnOk result (untried self.new ≡ untried_by self.old (joined (matrix_paths first.now ++ matrix_paths second.now) (paths_via self.old rest))) }
+        ensures steps { OnOk result (steps_ahead self.new ≡ steps first.now (steps_via self.old rest) + (steps second.now (steps_via self.old rest) + choice_steps self.old)) }
     {
         self.put(second, rest)?;
         self.leave()?;
@@ -164,8 +164,8 @@ impl<'m> Walk<'m> {
         requires rest { rest ≤ length self.old.tasks.items }
         ensures walk { OnOk result (IsWalk self.new) }
         ensures prefix { self.new.prefix ≡ self.old.prefix }
-        ensures paths { OnOk result (untried self.new ≡ untried_by self.old (joined (joined (matrix_paths first.now) (matrix_paths second.now)) (paths_from self.old rest))) }
-        ensures steps { OnOk result (steps_ahead self.new ≡ steps first.now (steps second.now (steps_from self.old rest)) + choice_steps self.old) }
+        ensures paths { OnOk result (untried self.new ≡ untried_by self.old (joined (joined (matrix_paths first.now) (matrix_paths second.now)) (paths_via self.old rest))) }
+        ensures steps { OnOk result (steps_ahead self.new ≡ steps first.now (steps second.now (steps_via self.old rest)) + choice_steps self.old) }
     {
         self.put(second, rest)?;
         let rest = self.at;
@@ -178,8 +178,8 @@ impl<'m> Walk<'m> {
         requires more { 0 < self.now.at }
         ensures numbers { IsNumberedTo (length self.now.prefix.counts.items - 1) result.matrix.now }
         ensures rest { result.rest ≤ length self.now.tasks.items }
-        ensures paths { untried self.now ≡ untried_by self.now (joined (matrix_paths result.matrix.now) (paths_from self.now result.rest)) }
-        ensures steps { steps_ahead self.now ≡ steps result.matrix.now (steps_from self.now result.rest) + choice_steps self.now }
+        ensures paths { untried self.now ≡ untried_by self.now (joined (matrix_paths result.matrix.now) (paths_via self.now result.rest)) }
+        ensures steps { steps_ahead self.now ≡ steps result.matrix.now (steps_via self.now result.rest) + choice_steps self.now }
     {
         self.tasks[self.at - 1]
     }
@@ -217,7 +217,9 @@ impl<'m> Walk<'m> {
     }
 }
 
-/// The first path of the matrix, whose leaves have numbers from 1 to `leaf_count`, that holds none of the pairs.
+/// The first path of the matrix, whose leaves have numbers from 1 to `leaf_count`, that holds none of the pairs; `None` where each path
+/// holds one. The walk is a loop, since one path can have as many leaves as the matrix, and each leaf costs as many steps as it has
+/// partners.
 pub fn first_open_path(
     alloc: Global,
     matrix: &Matrix,
