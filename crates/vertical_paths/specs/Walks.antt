@@ -62,11 +62,11 @@ AreChoices tasks leaves [] = Unit {0}
 AreChoices tasks leaves (choice ∷ older) = (choice.at ≤ tasks) × (choice.leaves ≤ leaves) × AreChoices choice.at choice.leaves older
 
 -- the paths through a task and those after it
-abbrev pub paths_from : Walk → ℕ → List (List ℕ)
-paths_from walk at = paths_through (chain walk.tasks.items at)
+abbrev pub paths_via : Walk → ℕ → List (List ℕ)
+paths_via walk at = paths_through (chain walk.tasks.items at)
 
-abbrev pub steps_from : Walk → ℕ → ℕ
-steps_from walk at = steps_through (chain walk.tasks.items at)
+abbrev pub steps_via : Walk → ℕ → ℕ
+steps_via walk at = steps_through (chain walk.tasks.items at)
 
 -- the paths that choices of the walk left out
 abbrev pub choice_paths : Walk → List (List ℕ)
@@ -80,10 +80,10 @@ abbrev pub untried_by : Walk → List (List ℕ) → List (List ℕ)
 untried_by walk paths = behind walk.prefix.leaves.items paths ++ choice_paths walk
 
 abbrev pub untried : Walk → List (List ℕ)
-untried walk = untried_by walk (paths_from walk walk.at)
+untried walk = untried_by walk (paths_via walk walk.at)
 
 abbrev pub steps_ahead : Walk → ℕ
-steps_ahead walk = steps_from walk walk.at + choice_steps walk
+steps_ahead walk = steps_via walk walk.at + choice_steps walk
 
 -- a walk through tasks whose leaves have counts
 pub record IsWalk (walk : Walk) : Type 0 where

@@ -5,13 +5,12 @@ ghost use Rattle.std.specs.Option.{option_map};
 ghost use Rattle.hol_terms.specs.Terms.{plain_term};
 ghost use Rattle.vertical_paths.specs.Matings.{IsFirstBad, IsGood, Spans, first_open as first_open_of, leaf_at};
 
+use crate::walk::first_open_path;
 use expansion_tree::fitted::{Fitted, LeafView};
 use expansion_tree::matings::Mating;
 use hol_terms::lists::Numbers;
 use hol_terms::terms::same;
 use std::alloc::{AllocError, Global};
-
-use crate::walk::first_open_path;
 
 /// The leaf of a number, from 1.
 fn leaf_of(fitted: &Fitted, n: u64) -> Option<LeafView<'_>>
@@ -50,7 +49,8 @@ pub fn bad_pair(fitted: &Fitted, mating: &Mating) -> Option<u64>
     None
 }
 
-/// The first path of the fitted tree that holds no pair of the mating, as its leaf numbers; `None` where the mating spans.
+/// The first path of the fitted tree that holds no pair of the mating, as its leaf numbers, from 1; `None` where the mating spans.
+/// An `Err` is want of memory.
 pub fn first_open(
     alloc: Global,
     fitted: &Fitted,
@@ -75,4 +75,73 @@ fn numbers_of(alloc: Global, items: &[u64]) -> Result<Numbers, AllocError>
         numbers.push(*n)?;
     }
     Ok(numbers)
+}
+
+#[cfg(test)]
+mod tests {
+    use super::*;
+    use expansion_tree::trees::{Op, Tree};
+    use hol_terms::terms::{Con, Tm};
+    use std::test::Fail;
+
+    /// `TRUTH OR NOT a`, for a constant, with two leaves.
+    fn two_leaves(alloc: Global, con: Con) -> Result<Fitted, Fail> {
+        let not = Box::new(alloc, Tm::Con(Con::Not))?;
+        let side = Tm::App(not, Box::new(alloc, Tm::Con(con))?);
+        let or = Box::new(alloc, Tm::Con(Con::Or))?;
+        let first = Tm::App(or, Box::new(alloc, Tm::Con(Con::Truth))?);
+        let formula = Tm::App(Box::new(alloc, first)?, Box::new(alloc, side)?);
+        let leaf = Box::new(alloc, Tree::Leaf)?;
+        let below = Box::new(alloc, Tree::Not(Box::new(alloc, Tree::Leaf)?))?;
+        Ok(Fitted::new(alloc, formula, Tree::Bin(Op::Or, leaf, below))?)
+    }
+
+    /// A mating of two pairs.
+    fn mating_of(alloc: Global, pairs: [(u64, u64); 2]) -> Result<Mating, AllocError> {
+        let mut mating = Mating::new(alloc);
+        mating.push(pairs[0].0, pairs[0].1)?;
+        mating.push(pairs[1].0, pairs[1].1)?;
+        Ok(mating)
+    }
+
+    #[test]
+    fn pairs_of_two_leaves(rt: HostRuntime) -> Result<(), Fail> {
+        let fitted = two_leaves(rt.alloc(), Con::Truth)?;
+        for (pairs, bad) in [
+            ([(1, 2), (2, 1)], None),
+            ([(1, 1), (1, 2)], Some(1)),
+            ([(1, 2), (1, 3)], Some(2)),
+            ([(2, 1), (0, 2)], Some(2)),
+        ] {
+            assert_eq!(rt; bad_pair(&fitted, &mating_of(rt.alloc(), pairs)?), bad);
+        }
+        Ok(())
+    }
+
+    #[test]
+    fn leaves_of_two_formulas(rt: HostRuntime) -> Result<(), Fail> {
+        let fitted = two_leaves(rt.alloc(), Con::Falsehood)?;
+        let mating = mating_of(rt.alloc(), [(1, 2), (2, 1)])?;
+        assert_eq!(rt; bad_pair(&fitted, &mating), Some(1));
+        Ok(())
+    }
+
+    #[test]
+    fn path_of_two_leaves(rt: HostRuntime) -> Result<(), Fail> {
+        let fitted = two_leaves(rt.alloc(), Con::Truth)?;
+        let open = first_open(rt.alloc(), &fitted, &Mating::new(rt.alloc()))?;
+        assert_eq!(rt;
+            open.as_ref().map(|path| path.as_slice()),
+            Some([1, 2].as_slice())
+        );
+        Ok(())
+    }
+
+    #[test]
+    fn spanned_leaves(rt: HostRuntime) -> Result<(), Fail> {
+        let fitted = two_leaves(rt.alloc(), Con::Truth)?;
+        let mating = mating_of(rt.alloc(), [(1, 2), (2, 1)])?;
+        assert!(rt; first_open(rt.alloc(), &fitted, &mating)?.is_none());
+        Ok(())
+    }
 }

@@ -6,7 +6,7 @@ ghost use Rattle.std.specs.declared.alloc.Global.{Global};
 ghost use Rattle.expansion_tree.specs.Matrices.{joined, matrix_paths, IsNumberedTo};
 ghost use Rattle.vertical_paths.specs.Matings.{first_open as first_open_of, is_closed};
 ghost use Rattle.vertical_paths.specs.Partners.{ArePartnerRows};
-ghost use Rattle.vertical_paths.specs.Walks.{steps, IsWalk, IsOpenFor, paths_from, steps_from, choice_paths, choice_steps, untried_by, untried, steps_ahead, chain};
+ghost use Rattle.vertical_paths.specs.Walks.{steps, IsWalk, IsOpenFor, paths_via, steps_via, choice_paths, choice_steps, untried_by, untried, steps_ahead, chain};
 
 use crate::partners::partner_rows;
 use crate::prefixes::Prefix;
@@ -121,10 +121,10 @@ impl<'m> Walk<'m> {
         requires rest { rest ≤ length self.old.tasks.items }
         ensures walk { OnOk result (IsWalk self.new) }
         ensures bound { OnOk result (length self.new.prefix.counts.items ≡ length self.old.prefix.counts.items) }
-        ensures steps { result ≡ Ok true → steps_ahead self.new ≡ steps_from self.old rest + choice_steps self.old }
-        ensures goes_on { result ≡ Ok true → untried self.new ≡ untried_by self.old (joined ((leaf ∷ []) ∷ []) (paths_from self.old rest)) }
+        ensures steps { result ≡ Ok true → steps_ahead self.new ≡ steps_via self.old rest + choice_steps self.old }
+        ensures goes_on { result ≡ Ok true → untried self.new ≡ untried_by self.old (joined ((leaf ∷ []) ∷ []) (paths_via self.old rest)) }
         ensures open { (pairs : List (ℕ × ℕ)) → IsOpenFor pairs rows.now self.old → OnOk result (IsOpenFor pairs rows.now self.new) }
-        ensures stops { result ≡ Ok false → (pairs : List (ℕ × ℕ)) → IsOpenFor pairs rows.now self.old → first_open_of pairs (untried_by self.old (joined ((leaf ∷ []) ∷ []) (paths_from self.old rest))) ≡ first_open_of pairs (choice_paths self.old) }
+        ensures stops { result ≡ Ok false → (pairs : List (ℕ × ℕ)) → IsOpenFor pairs rows.now self.old → first_open_of pairs (untried_by self.old (joined ((leaf ∷ []) ∷ []) (paths_via self.old rest))) ≡ first_open_of pairs (choice_paths self.old) }
         ensures kept { result ≡ Ok false → self.new ≡ self.old }
     {
         if self.prefix.meets(leaf, &rows[leaf as usize]) {
@@ -148,8 +148,8 @@ impl<'m> Walk<'m> {
         requires rest { rest ≤ length self.old.tasks.items }
         ensures walk { OnOk result (IsWalk self.new) }
         ensures prefix { self.new.prefix ≡ self.old.prefix }
-        ensures paths { OnOk result (untried self.new ≡ untried_by self.old (joined (matrix_paths first.now ++ matrix_paths second.now) (paths_from self.old rest))) }
-        ensures steps { OnOk result (steps_ahead self.new ≡ steps first.now (steps_from self.old rest) + (steps second.now (steps_from self.old rest) + choice_steps self.old)) }
+        ensures paths { OnOk result (untried self.new ≡ untried_by self.old (joined (matrix_paths first.now ++ matrix_paths second.now) (paths_via self.old rest))) }
+        ensures steps { OnOk result (steps_ahead self.new ≡ steps first.now (steps_via self.old rest) + (steps second.now (steps_via self.old rest) + choice_steps self.old)) }
     {
         self.put(second, rest)?;
         self.leave()?;
@@ -164,8 +164,8 @@ impl<'m> Walk<'m> {
         requires rest { rest ≤ length self.old.tasks.items }
         ensures walk { OnOk result (IsWalk self.new) }
         ensures prefix { self.new.prefix ≡ self.old.prefix }
-        ensures paths { OnOk result (untried self.new ≡ untried_by self.old (joined (joined (matrix_paths first.now) (matrix_paths second.now)) (paths_from self.old rest))) }
-        ensures steps { OnOk result (steps_ahead self.new ≡ steps first.now (steps second.now (steps_from self.old rest)) + choice_steps self.old) }
+        ensures paths { OnOk result (untried self.new ≡ untried_by self.old (joined (joined (matrix_paths first.now) (matrix_paths second.now)) (paths_via self.old rest))) }
+        ensures steps { OnOk result (steps_ahead self.new ≡ steps first.now (steps second.now (steps_via self.old rest)) + choice_steps self.old) }
     {
         self.put(second, rest)?;
         let rest = self.at;
@@ -178,8 +178,8 @@ impl<'m> Walk<'m> {
         requires more { 0 < self.now.at }
         ensures numbers { IsNumberedTo (length self.now.prefix.counts.items - 1) result.matrix.now }
         ensures rest { result.rest ≤ length self.now.tasks.items }
-        ensures paths { untried self.now ≡ untried_by self.now (joined (matrix_paths result.matrix.now) (paths_from self.now result.rest)) }
-        ensures steps { steps_ahead self.now ≡ steps result.matrix.now (steps_from self.now result.rest) + choice_steps self.now }
+        ensures paths { untried self.now ≡ untried_by self.now (joined (matrix_paths result.matrix.now) (paths_via self.now result.rest)) }
+        ensures steps { steps_ahead self.now ≡ steps result.matrix.now (steps_via self.now result.rest) + choice_steps self.now }
     {
         self.tasks[self.at - 1]
     }
@@ -217,7 +217,9 @@ impl<'m> Walk<'m> {
     }
 }
 
-/// The first path of the matrix, whose leaves have numbers from 1 to `leaf_count`, that holds none of the pairs.
+/// The first path of the matrix, whose leaves have numbers from 1 to `leaf_count`, that holds none of the pairs; `None` where each path
+/// holds one. The walk is a loop, since one path can have as many leaves as the matrix, and each leaf costs as many steps as it has
+/// partners.
 pub fn first_open_path(
     alloc: Global,
     matrix: &Matrix,
@@ -236,4 +238,105 @@ pub fn first_open_path(
         }
     }
     Ok(Some(walk.prefix.leaves))
+}
+
+#[cfg(test)]
+mod tests {
+    use super::*;
+    use std::test::Fail;
+
+    /// One leaf.
+    fn leaf(alloc: Global, k: u64) -> Result<Box<Matrix>, AllocError>
+        ensures { IfOk result (λ matrix. (n : ℕ) → 1 ≤ k → k ≤ n → IsNumberedTo n matrix.value) }
+    {
+        Ok(Box::new(alloc, Matrix::Leaf(k))?)
+    }
+
+    /// The leaves from 1 to `n` in one path, each above all that come after it.
+    fn down_right(alloc: Global, n: u64) -> Result<Matrix, AllocError>
+        ensures { IfOk result (λ matrix. IsNumberedTo n matrix) }
+    {
+        let mut matrix = Matrix::Empty;
+        for k in 0..n {
+            matrix = Matrix::Above(leaf(alloc, n - k)?, Box::new(alloc, matrix)?);
+        }
+        Ok(matrix)
+    }
+
+    /// The same path, where all that come before a leaf stand above it.
+    fn down_left(alloc: Global, n: u64) -> Result<Matrix, AllocError>
+        ensures { IfOk result (λ matrix. IsNumberedTo n matrix) }
+    {
+        let mut matrix = Matrix::Empty;
+        for k in 0..n {
+            matrix = Matrix::Above(Box::new(alloc, matrix)?, leaf(alloc, k + 1)?);
+        }
+        Ok(matrix)
+    }
+
+    /// Two leaves beside each other.
+    fn two(alloc: Global, i: u64, j: u64) -> Result<Matrix, AllocError>
+        ensures { IfOk result (λ matrix. (n : ℕ) → 1 ≤ i → i ≤ n → 1 ≤ j → j ≤ n → IsNumberedTo n matrix) }
+    {
+        Ok(Matrix::Beside(leaf(alloc, i)?, leaf(alloc, j)?))
+    }
+
+    /// Whether leaf 1 or 2 above leaf 3 or 4 has the first open path with these leaves, or none where there are none.
+    fn is_first_open(
+        alloc: Global,
+        pairs: &[(u64, u64)],
+        leaves: &[u64],
+    ) -> Result<bool, AllocError> {
+        let upper = Box::new(alloc, two(alloc, 1, 2)?)?;
+        let lower = Box::new(alloc, two(alloc, 3, 4)?)?;
+        match first_open_path(alloc, &Matrix::Above(upper, lower), 4, pairs)? {
+            Some(path) => Ok(path.as_slice() == leaves),
+            None => Ok(leaves.is_empty()),
+        }
+    }
+
+    /// How long the first open path is, where one pair is given, or 0 where there is none.
+    fn open_length(
+        alloc: Global,
+        matrix: &Matrix,
+        n: u64,
+        pair: (u64, u64),
+    ) -> Result<usize, AllocError>
+        requires { IsNumberedTo n matrix.now }
+    {
+        match first_open_path(alloc, matrix, n, &[pair])? {
+            Some(path) => Ok(path.len()),
+            None => Ok(0),
+        }
+    }
+
+    #[test]
+    fn two_above_two(rt: HostRuntime) -> Result<(), Fail> {
+        for (pairs, leaves) in [
+            ([(0, 1), (5, 3)], [1, 3]),
+            ([(1, 3), (2, 4)], [1, 4]),
+            ([(1, 3), (4, 1)], [2, 3]),
+            ([(1, 1), (3, 2)], [2, 4]),
+        ] {
+            assert!(rt; is_first_open(rt.alloc(), &pairs, &leaves)?);
+        }
+        assert!(rt; is_first_open(rt.alloc(), &[(1, 1), (2, 2)], &[])?);
+        Ok(())
+    }
+
+    #[test]
+    fn long_right(rt: HostRuntime) -> Result<(), Fail> {
+        let matrix = down_right(rt.alloc(), 80000)?;
+        assert_eq!(rt; open_length(rt.alloc(), &matrix, 80000, (0, 80000))?, 80000);
+        assert_eq!(rt; open_length(rt.alloc(), &matrix, 80000, (80000, 1))?, 0);
+        Ok(())
+    }
+
+    #[test]
+    fn long_left(rt: HostRuntime) -> Result<(), Fail> {
+        let matrix = down_left(rt.alloc(), 5000)?;
+        assert_eq!(rt; open_length(rt.alloc(), &matrix, 5000, (0, 5000))?, 5000);
+        assert_eq!(rt; open_length(rt.alloc(), &matrix, 5000, (1, 5000))?, 0);
+        Ok(())
+    }
 }

@@ -9,10 +9,9 @@ no b e h = cc
 pub returns-then-not-is_good-clause-none : goal.returns-then-not-is_good-clause-none
 returns-then-not-is_good-clause-none c =
     let tells = rw c.pairs-pair-items.ensures at c.is_good.ensures in
-    let within = rw c.pairs-pair-items.ensures at c.loop-k-test.true in
-    (
+    let within = rw c.pairs-pair-items.ensures at c.loop-k-test.true in (
       λ h. cc,
-      λ all. absurd (not_all_good c.args.fitted.now.leaf_list c.args.mating.now c.loop-k.k (0, 0) within (λ good. no c.is_good.result c.if-not-is_good.true (tells.1 good)) all)
+      λ all. absurd (not_all_good c.args.fitted.now.leaf_list c.args.mating.now c.loop-k.k (0, 0) within (λ good. no c.is_good.result c.if-not-is_good.true (tells.1 good)) all),
     )
 
 pub returns-then-not-is_good-clause-some : goal.returns-then-not-is_good-clause-some

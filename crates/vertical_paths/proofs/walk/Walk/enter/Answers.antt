@@ -1,6 +1,6 @@
 use Rattle.std.proofs.Common.{refl, sym, ◌≤◌, ◌∙◌, ◌∷◌, [], length, reverse, arith}
 use Rattle.std.proofs.lemmas.List.{length-append}
-use Rattle.vertical_paths.specs.Walks.{paths_from}
+use Rattle.vertical_paths.specs.Walks.{paths_via}
 use Rattle.vertical_paths.proofs.Rows.{row_is}
 use Rattle.vertical_paths.proofs.Closing.{leaf_stops, is_closed-push}
 use Rattle.vertical_paths.proofs.Joined.{behind-leaf}
@@ -12,7 +12,7 @@ returns-then-meets-clause-stops c _ pairs h =
     let walk = c.args.self.now in
     let row = row_is (length walk.prefix.counts.items) pairs c.args.rows.now c.args.leaf c.index-rows-leaf.result h.partners c.requires.leaf c.index-rows-leaf.is in
     let met = rw (c.deref.ensures.value, row) at (sym c.meets.ensures ∙ c.if-meets.true) in
-    leaf_stops pairs walk.prefix.leaves.items c.args.leaf (paths_from walk c.args.rest) _ h.so_far met
+    leaf_stops pairs walk.prefix.leaves.items c.args.leaf (paths_via walk c.args.rest) _ h.so_far met
 
 pub returns-clause-walk : goal.returns-clause-walk
 returns-clause-walk c =
@@ -42,4 +42,4 @@ returns-clause-goes_on c _ =
     let walk = c.args.self.now in
     let leaves = walk.prefix.leaves.items in
     let left = paths_left-leaves walk.tasks.items leaves (c.args.leaf ∷ []) (reverse walk.choices.items) c.requires.walk.choices in
-    rw (c.in_ok-push.ensures.leaves, left, behind-leaf leaves c.args.leaf (paths_from walk c.args.rest)) refl
+    rw (c.in_ok-push.ensures.leaves, left, behind-leaf leaves c.args.leaf (paths_via walk c.args.rest)) refl
