@@ -3,6 +3,7 @@ pub mod Collecting
 pub mod FreeLaws
 pub mod IndexLaws
 pub mod Naming
+pub mod Replacing
 pub mod Same
 pub mod TypingLaws
 pub mod Typings

@@ -2,7 +2,7 @@
 use Rattle.std.specs.Prelude.{ℕ, ◌+◌, List, [], ◌∷◌, ◌++◌, not, filter, cond, ◌≡◌, ◌⊎◌}
 use Rattle.hol_terms.specs.Terms.{SimpleType, Term, free, bound, constant, application, abstraction, Variable}
 use Rattle.hol_terms.specs.Computed.{same_variable}
-use Rattle.hol_terms.specs.Indices.{put}
+use Rattle.hol_terms.specs.Indices.{put, raise}
 
 -- the variable of that name and type is free in the term
 abbrev pub IsFree : List ℕ → SimpleType → Term → Type 0
@@ -32,6 +32,14 @@ first_occurrences (v ∷ rest) = v ∷ without v (first_occurrences rest)
 -- the free variables of a term, each once, in the order of first occurrence
 abbrev pub free_variables_of : Term → List Variable
 free_variables_of t = first_occurrences (occurrences t)
+
+-- the term u put for a free variable; under each abstraction its loose indices are raised
+abbrev pub replace_free : List ℕ → SimpleType → Term → Term → Term
+replace_free n s u (free m r) = cond (same_variable (n, s) (m, r)) u (free m r)
+replace_free n s u (bound i) = bound i
+replace_free n s u (constant c) = constant c
+replace_free n s u (application f a) = application (replace_free n s u f) (replace_free n s u a)
+replace_free n s u (abstraction r b) = abstraction r (replace_free n s (raise 1 0 u) b)
 
 -- the body of the abstraction of t over a variable: the variable isn't free in it, and its instance with the variable is t
 abbrev pub IsBodyOver : List ℕ → SimpleType → Term → Term → Type 0

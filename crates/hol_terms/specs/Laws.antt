@@ -3,7 +3,7 @@ use Rattle.std.specs.Prelude.{ℕ, suc, ◌+◌, ◌≤◌, List, [], ◌∷◌,
 use Rattle.hol_terms.specs.Terms.{SimpleType, Term, free}
 use Rattle.hol_terms.specs.Typing.{Typed}
 use Rattle.hol_terms.specs.Indices.{raise, put, instance_of, HasIndex, IsClosedBelow, IsClosed}
-use Rattle.hol_terms.specs.FreeVariables.{IsFree, IsBodyOver, free_variables_of}
+use Rattle.hol_terms.specs.FreeVariables.{IsFree, IsBodyOver, body_over, free_variables_of, replace_free}
 
 -- types
 
@@ -77,3 +77,24 @@ ListsFreeVariables = (n : List ℕ) (s : SimpleType) (t : Term) → Contains (fr
 -- a term has one body over a variable
 abbrev pub HasOneBody : Type 0
 HasOneBody = (n : List ℕ) (s : SimpleType) (t b c : Term) → IsClosed t → IsBodyOver n s t b → IsBodyOver n s t c → b ≡ c
+
+-- terms put for free variables
+
+-- a term of a variable's type, put for it, keeps the type of the whole
+abbrev pub ReplaceKeepsType : Type 0
+ReplaceKeepsType =
+    (types : List SimpleType) (n : List ℕ) (s : SimpleType) (u t : Term) (r : SimpleType) → Typed types u s → Typed types t r → Typed types (replace_free n s u t) r
+
+-- two terms put for two variables, the first of which isn't free in the second's term
+abbrev pub ReplacesCommute : Type 0
+ReplacesCommute =
+    (n m : List ℕ) (s q : SimpleType) (u v t : Term) → ((n ≡ m) × (s ≡ q) → ⊥) → (IsFree n s v → ⊥)
+    → replace_free m q v (replace_free n s u t) ≡ replace_free n s (replace_free m q v u) (replace_free m q v t)
+
+-- a variable that isn't free is replaced nowhere
+abbrev pub ReplaceOfNotFree : Type 0
+ReplaceOfNotFree = (n : List ℕ) (s : SimpleType) (u t : Term) → (IsFree n s t → ⊥) → replace_free n s u t ≡ t
+
+-- the instance of the body over a variable is the term with the other one put for the variable
+abbrev pub InstanceIsReplaced : Type 0
+InstanceIsReplaced = (n : List ℕ) (s : SimpleType) (u t body : Term) → IsClosed t → IsBodyOver n s t body → instance_of body u ≡ replace_free n s u t

@@ -1,6 +1,6 @@
 //! Laws of terms. The functions do nothing: what each ensures is a theorem, which the layers above may cite.
 
-ghost use Rattle.hol_terms.specs.Laws.{BodyKeepsType, FreeOfPut, HasOneBody, HasOneType, IsClosedByType, ListsFreeVariables, PutKeepsType, PutOfClosed, PutOfRaised, PutsCommute, RaiseCommutesAbove, RaiseCommutesBelow, RaiseKeepsType, RaiseOfClosed, RaisesCommute, RaisesJoin};
+ghost use Rattle.hol_terms.specs.Laws.{BodyKeepsType, FreeOfPut, HasOneBody, HasOneType, InstanceIsReplaced, IsClosedByType, ListsFreeVariables, PutKeepsType, PutOfClosed, PutOfRaised, PutsCommute, RaiseCommutesAbove, RaiseCommutesBelow, RaiseKeepsType, RaiseOfClosed, RaisesCommute, RaisesJoin, ReplaceKeepsType, ReplaceOfNotFree, ReplacesCommute};
 
 /// A term has at most one type and no loose index without a type, and its type stays under raised and replaced indices and in
 /// the body over a variable.
@@ -29,4 +29,12 @@ pub fn free_variables()
     ensures instance { FreeOfPut }
     ensures list { ListsFreeVariables }
     ensures body { HasOneBody }
+{}
+
+/// A term put for a free variable.
+pub fn replacement()
+    ensures typed { ReplaceKeepsType }
+    ensures commute { ReplacesCommute }
+    ensures not_free { ReplaceOfNotFree }
+    ensures instance { InstanceIsReplaced }
 {}

@@ -1,0 +1,9 @@
+pub mod Commuting
+pub mod Existence
+pub mod Heights
+pub mod Longness
+pub mod Lookups
+pub mod Model
+pub mod Normals
+pub mod Steps
+pub mod Uniqueness

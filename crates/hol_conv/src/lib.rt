@@ -1,0 +1,8 @@
+//! Conversion by beta and eta: each typed term has exactly one long normal form.
+#![tactic(auto)]
+
+pub mod laws;
+pub mod long;
+pub mod normal;
+#[cfg(test)]
+mod tests;
