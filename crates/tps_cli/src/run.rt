@@ -51,3 +51,6 @@ pub fn run<S: Source, K: Sink>(
         },
     }
 }
+
+#[cfg(test)]
+mod tests;

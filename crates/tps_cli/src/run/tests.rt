@@ -1,0 +1,92 @@
+//! Runs over memory.
+
+use super::*;
+use std::alloc::AllocError;
+use std::test::Fail;
+use tps_io::sink::MemSink;
+use tps_io::source::MemSource;
+
+const PROOF: &str = "(PROOF 1 (A (A OR (V p O)) (A NOT (V p O))) (OR LEAF (NOT LEAF)) ((1 2)))";
+
+/// How a run over memory ends, and what it writes: a source of 10 bytes a call and a sink of 3, of whose calls those listed fail.
+fn run_on(
+    alloc: Global,
+    words: &str,
+    text: &str,
+    failing_reads: Vec<u64>,
+    failing_writes: Vec<u64>,
+) -> Result<(Status, Vec<u8>), AllocError> {
+    let mut owned = Vec::new(alloc);
+    for word in words.split_whitespace() {
+        owned.push(String::from_str(alloc, word)?)?;
+    }
+    let bytes = Vec::from_slice(alloc, text.as_bytes())?;
+    let mut source = MemSource::new(bytes, 10, failing_reads);
+    let mut sink = MemSink::new(alloc, 3, 64, failing_writes)?;
+    let status = run(alloc, &owned, &mut source, &mut sink);
+    Ok((status, Vec::from_slice(alloc, sink.bytes())?))
+}
+
+/// The same where no call fails.
+fn check_on(alloc: Global, text: &str) -> Result<(Status, Vec<u8>), AllocError> {
+    run_on(alloc, "check", text, Vec::new(alloc), Vec::new(alloc))
+}
+
+#[test]
+fn a_proof_is_accepted(rt: HostRuntime) -> Result<(), Fail> {
+    let (status, written) = check_on(rt.alloc(), PROOF)?;
+    assert_eq!(rt; status, Status::Done);
+    assert_eq!(rt; written.as_slice(), b"ACCEPTED\n".as_slice());
+    assert_eq!(rt; status.code(), 0);
+    Ok(())
+}
+
+#[test]
+fn other_texts_are_told_apart(rt: HostRuntime) -> Result<(), Fail> {
+    let alloc = rt.alloc();
+    let open = "(PROOF 1 (A (A OR (V p O)) (A NOT (V p O))) (OR LEAF (NOT LEAF)) ())";
+    let bad = "(PROOF 1 (A (A OR (V p O)) (A NOT (V p O))) (OR LEAF (NOT LEAF)) ((1 2) (1 3)))";
+    let misfit = "(PROOF 1 (A (A OR (V p O)) (A NOT (V p O))) CONST ())";
+    for text in [open, bad, misfit] {
+        let (status, written) = check_on(alloc, text)?;
+        assert_eq!(rt; status, Status::No);
+        assert_eq!(rt; written.as_slice(), b"REJECTED\n".as_slice());
+    }
+    for text in ["", "(PROOF 1", "(PROOF 1 TRUTH CONST ()))"] {
+        let (status, written) = check_on(alloc, text)?;
+        assert_eq!(rt; status, Status::BadText);
+        assert!(rt; written.is_empty());
+    }
+    Ok(())
+}
+
+#[test]
+fn other_words_do_nothing(rt: HostRuntime) -> Result<(), Fail> {
+    let alloc = rt.alloc();
+    for words in ["", "Check", "check x"] {
+        let (status, written) = run_on(alloc, words, PROOF, Vec::new(alloc), Vec::new(alloc))?;
+        assert_eq!(rt; status, Status::Words);
+        assert!(rt; written.is_empty());
+    }
+    Ok(())
+}
+
+#[test]
+fn a_read_that_fails_is_told(rt: HostRuntime) -> Result<(), Fail> {
+    let alloc = rt.alloc();
+    let second = Vec::from_slice(alloc, &[2])?;
+    let (status, written) = run_on(alloc, "check", PROOF, second, Vec::new(alloc))?;
+    assert_eq!(rt; status, Status::ReadFault);
+    assert!(rt; written.is_empty());
+    Ok(())
+}
+
+#[test]
+fn a_write_that_fails_leaves_a_front(rt: HostRuntime) -> Result<(), Fail> {
+    let alloc = rt.alloc();
+    let second = Vec::from_slice(alloc, &[2])?;
+    let (status, written) = run_on(alloc, "check", PROOF, Vec::new(alloc), second)?;
+    assert_eq!(rt; status, Status::WriteFault);
+    assert_eq!(rt; written.as_slice(), b"ACC".as_slice());
+    Ok(())
+}
