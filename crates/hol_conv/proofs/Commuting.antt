@@ -1,12 +1,12 @@
 -- Conversion is equality of values, and what follows from it for substitution.
-use Rattle.std.proofs.Common.{ℕ, zero, suc, ◌+◌, List, [], ◌∷◌, ◌≡◌, refl, sym, ap, ap₂, subst, ◌∙◌, length}
-use Rattle.hol_terms.specs.Terms.{SimpleType, Term, bound}
+use Rattle.std.proofs.Common.{ℕ, List, ◌∷◌, ◌≡◌, sym, subst, ◌∙◌}
+use Rattle.hol_terms.specs.Terms.{SimpleType, Term}
 use Rattle.hol_terms.specs.Typing.{Typed}
-use Rattle.hol_terms.specs.Indices.{raise, put, put_index}
-use Rattle.hol_conv.specs.Conversion.{Conv, done, next, Form, neutral, long, Long, IsNormalOf}
-use Rattle.hol_conv.specs.NormalForms.{normal_form, hereditary, apply_long, put_long, long_form}
-use Rattle.hol_conv.specs.Values.{Names, variables, AnyValue, Value, eval, push, around}
-use Rattle.hol_conv.proofs.Model.{eval-put, eval-raise, eval-conv, eval-type, Replaced, push-replaced, push-instance, fits-around, fits-push, Fits, unique_value, form-typed, as_type}
+use Rattle.hol_terms.specs.Indices.{raise, put}
+use Rattle.hol_conv.specs.Conversion.{Conv, long, Long}
+use Rattle.hol_conv.specs.NormalForms.{normal_form, hereditary, apply_long}
+use Rattle.hol_conv.specs.Values.{Names, variables, AnyValue, eval, push, around}
+use Rattle.hol_conv.proofs.Model.{eval-put, eval-conv, eval-type, Replaced, push-replaced, push-instance, fits-around, fits-push, Fits, unique_value, form-typed, as_type}
 use Rattle.hol_conv.proofs.Steps.{conv-trans, form-raise}
 use Rattle.hol_terms.proofs.TypingLaws.{shifted_one}
 use Rattle.hol_terms.proofs.IndexLaws.{raise-none}

@@ -1,12 +1,12 @@
 -- Hereditary substitution gives a long term that is convertible with the plain instance.
-use Rattle.std.proofs.Common.{ℕ, zero, suc, ◌+◌, ◌-◌, ◌<◌, ◌≤◌, List, [], ◌∷◌, Bool, true, false, eqb, nat_lt, cond, ◌≡◌, refl, sym, ap, ap₂, subst, ◌∙◌, slice_get, Option, Some, None, length, arith, inl, inr, ◌⊎◌}
+use Rattle.std.proofs.Common.{ℕ, zero, suc, ◌+◌, ◌-◌, ◌<◌, List, [], ◌∷◌, ◌≡◌, refl, sym, subst, slice_get, Some, arith, inl, inr, ◌⊎◌}
 use Rattle.std.proofs.lemmas.Bool.Decides.{nat_tests}
 use Rattle.hol_terms.specs.Terms.{SimpleType, base_type, function_type, Term, free, bound, constant, application, abstraction}
 use Rattle.hol_terms.specs.Typing.{type_of_constant, Typed}
 use Rattle.hol_terms.specs.Indices.{raise, put, put_index}
-use Rattle.hol_conv.specs.Conversion.{Step, beta, eta, in_function, in_argument, in_body, AreNeighbours, Conv, done, next, IsBase, Form, neutral, long, Ends, HasForm, Long, Neutral, IsNormalOf}
+use Rattle.hol_conv.specs.Conversion.{beta, eta, Conv, done, next, IsBase, neutral, long, Long, Neutral}
 use Rattle.hol_terms.proofs.IndexLaws.{raise-none, raise-by_suc, put_index-same, put_index-less, put_index-more}
-use Rattle.hol_conv.proofs.Model.{conv-first, form-typed}
+use Rattle.hol_conv.proofs.Model.{form-typed}
 use Rattle.hol_terms.proofs.TypingLaws.{shifted_one, Filled, typed-put}
 use Rattle.hol_conv.proofs.Lookups.{lookup_some}
 use Rattle.hol_conv.proofs.Steps.{form-raise, conv-trans, conv-in-function, conv-in-argument, conv-in-body}

@@ -5,7 +5,7 @@ use Rattle.hol_terms.specs.Typing.{type_of_constant, Typed}
 use Rattle.hol_terms.specs.Computed.{same_type}
 use Rattle.hol_terms.proofs.Same.{same_type_refl, same_type_only}
 use Rattle.hol_terms.proofs.TypingLaws.{typed_once}
-use Rattle.hol_conv.specs.Conversion.{Form, neutral, long, Ends, HasForm, IsBase, Long, Neutral}
+use Rattle.hol_conv.specs.Conversion.{IsBase, Long, Neutral}
 use Rattle.hol_conv.specs.LongTests.{with_argument, is_at_base, neutral_type, is_long}
 
 with_argument-parts : (f : Option SimpleType) (accepts : SimpleType → Bool) (t : SimpleType) → with_argument f accepts ≡ Some t

@@ -1,5 +1,5 @@
 -- The type of an index as the code looks it up.
-use Rattle.std.proofs.Common.{ℕ, zero, suc, List, [], ◌∷◌, ◌≡◌, refl, slice_get, Option, Some, None}
+use Rattle.std.proofs.Common.{ℕ, zero, suc, List, [], ◌∷◌, ◌≡◌, refl, slice_get, Some, None}
 use Rattle.hol_terms.specs.Terms.{SimpleType, truth_type}
 use Rattle.hol_conv.specs.NormalForms.{type_of_index}
 

@@ -1,12 +1,11 @@
 -- Convertible terms have one value, and a long term is read back from its value: so there is one long normal form.
-use Rattle.std.proofs.Common.{ℕ, zero, suc, ◌+◌, ◌-◌, ◌<◌, ◌≤◌, List, [], ◌∷◌, Bool, true, false, eqb, nat_lt, cond, ◌≡◌, refl, sym, ap, ap₂, subst, ◌∙◌, slice_get, Option, Some, None, length, arith, inl, inr, ◌⊎◌, add-one, sub-one}
-use Rattle.std.proofs.lemmas.Bool.Decides.{nat_tests}
+use Rattle.std.proofs.Common.{ℕ, zero, suc, ◌+◌, ◌-◌, List, [], ◌∷◌, ◌≡◌, refl, sym, ap, ap₂, subst, ◌∙◌, slice_get, Some, length, arith, inl, inr}
 use Rattle.hol_terms.specs.Terms.{SimpleType, base_type, function_type, Term, free, bound, constant, application, abstraction}
 use Rattle.hol_terms.specs.Typing.{type_of_constant, Typed}
 use Rattle.hol_terms.specs.Indices.{raise_index, raise, put, put_index}
 use Rattle.hol_terms.proofs.IndexLaws.{raise_index-zero, raise_index-suc, raise_index-none, raise_index-one, put_index-zero, put_index-suc, put_index-same, put_index-more}
 use Rattle.hol_conv.specs.Values.{Value, reify, reflect, AnyValue, default, cast, back, apply_value, abstract_value, push, Names, variables, eval, around}
-use Rattle.hol_conv.specs.Conversion.{Step, beta, eta, in_function, in_argument, in_body, AreNeighbours, Conv, done, next, IsBase, Form, neutral, long, Ends, HasForm, Long, Neutral}
+use Rattle.hol_conv.specs.Conversion.{Step, beta, eta, in_function, in_argument, in_body, Conv, done, next, Form, neutral, long, Ends, HasForm, Long}
 
 pub funext : {A B : Type 0} {f g : A → B} → ((x : A) → f x ≡ g x) → f ≡ g
 funext h = λ i x. h x i

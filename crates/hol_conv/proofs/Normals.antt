@@ -1,25 +1,23 @@
 -- What follows from one long normal form: how it passes through applications, abstractions, connectives, instances and terms put
 -- for free variables.
-use Rattle.std.proofs.Common.{ℕ, zero, suc, ◌+◌, ◌-◌, ◌<◌, List, [], ◌∷◌, ◌++◌, Bool, true, false, cond, ◌≡◌, ◌↔◌, refl, sym, ap, ap₂, subst, ◌∙◌, slice_get, Option, Some, None, length, arith, inl, inr, ◌⊎◌}
-use Rattle.std.proofs.lemmas.Bool.Decides.{nat_tests}
-use Rattle.hol_terms.specs.Terms.{SimpleType, base_type, function_type, Term, free, bound, constant, application, abstraction, negation, conjunction, disjunction, implication, forall, exists}
-use Rattle.hol_terms.specs.Typing.{type_of_constant, Typed}
+use Rattle.std.proofs.Common.{ℕ, zero, suc, ◌+◌, ◌-◌, ◌<◌, List, ◌∷◌, Bool, true, false, cond, ◌≡◌, ◌↔◌, refl, sym, ap, ap₂, subst, ◌∙◌, slice_get, Some, inl, inr, ◌⊎◌}
+use Rattle.hol_terms.specs.Terms.{SimpleType, function_type, Term, free, bound, constant, application, abstraction, negation, conjunction, disjunction, implication, forall, exists}
+use Rattle.hol_terms.specs.Typing.{Typed}
 use Rattle.hol_terms.specs.Computed.{same_variable}
-use Rattle.hol_terms.specs.Indices.{raise_index, raise, put, put_index}
-use Rattle.hol_terms.specs.FreeVariables.{IsFree, body_over, replace_free}
+use Rattle.hol_terms.specs.Indices.{raise, put, put_index}
+use Rattle.hol_terms.specs.FreeVariables.{IsFree, replace_free}
 use Rattle.hol_terms.proofs.Same.{same_variable_parts}
 use Rattle.hol_terms.proofs.IndexLaws.{raise-none, raise_index-zero, raise_index-suc, raise_index-one, put_index-less, put_index-same, put_index-more, put_index-at}
-use Rattle.hol_terms.proofs.TypingLaws.{Shifted, shifted_under, shifted_one, typed_instance, typed_closed}
-use Rattle.hol_terms.proofs.Bodies.{put_of_body_over}
+use Rattle.hol_terms.proofs.TypingLaws.{Shifted, shifted_under, shifted_one, typed_instance}
 use Rattle.hol_terms.proofs.Replacing.{typed-replace_free, replace_free-replace_free}
-use Rattle.hol_conv.specs.Conversion.{Step, AreNeighbours, Conv, done, next, IsBase, Form, neutral, long, Ends, HasForm, Long, Neutral, IsNormalOf}
+use Rattle.hol_conv.specs.Conversion.{Step, Conv, done, next, Form, neutral, long, HasForm, Long, IsNormalOf}
 use Rattle.hol_conv.specs.NormalForms.{apply_long, hereditary, long_form, apply_abstraction, normal_form}
 use Rattle.hol_conv.specs.Values.{AnyValue, Value, Names, variables, cast, eval, push, around, abstract_value, apply_value}
-use Rattle.hol_conv.proofs.Model.{recast, eval-put, eval-raise, eval-conv, eval-type, Replaced, Raised, push-raised, push-shifted, push-instance, fits-around, fits-push, Fits, unique_value, unique, form-typed, as_type, funext, conv-first}
+use Rattle.hol_conv.proofs.Model.{recast, eval-put, eval-raise, eval-conv, eval-type, Raised, push-shifted, push-instance, fits-around, fits-push, unique_value, unique, form-typed, as_type, funext, conv-first}
 use Rattle.hol_conv.proofs.Steps.{conv-trans, conv-in-function, conv-in-argument, form-raise}
 use Rattle.hol_conv.proofs.Uniqueness.{conv-sym, conv-last}
 use Rattle.hol_conv.proofs.Existence.{normal_form-becomes, apply_abstraction-becomes, long_form-becomes, put_long_in_long, apply_long-becomes, removed-instance, removed-push, Removed}
-use Rattle.hol_conv.proofs.Commuting.{same_value, eval-hereditary}
+use Rattle.hol_conv.proofs.Commuting.{same_value}
 
 -- one long normal form
 

@@ -1,10 +1,9 @@
 -- Typing under raised and replaced indices, and conversion under the term formers.
-use Rattle.std.proofs.Common.{ℕ, zero, suc, ◌+◌, ◌-◌, ◌<◌, ◌≤◌, List, [], ◌∷◌, Bool, true, false, eqb, nat_lt, cond, ◌≡◌, refl, sym, ap, ap₂, subst, ◌∙◌, slice_get, Option, Some, None, length, arith, inl, inr, ◌⊎◌}
-use Rattle.std.proofs.lemmas.Bool.Decides.{nat_tests}
-use Rattle.hol_terms.specs.Terms.{SimpleType, base_type, function_type, Term, free, bound, constant, application, abstraction}
-use Rattle.hol_terms.specs.Typing.{type_of_constant, Typed}
-use Rattle.hol_terms.specs.Indices.{raise, put, put_index}
-use Rattle.hol_conv.specs.Conversion.{Step, beta, eta, in_function, in_argument, in_body, AreNeighbours, Conv, done, next, IsBase, Form, neutral, long, Ends, HasForm, Long, Neutral}
+use Rattle.std.proofs.Common.{ℕ, ◌+◌, List, ◌∷◌, refl, inl, inr}
+use Rattle.hol_terms.specs.Terms.{SimpleType, function_type, Term, free, bound, constant, application, abstraction}
+use Rattle.hol_terms.specs.Typing.{Typed}
+use Rattle.hol_terms.specs.Indices.{raise}
+use Rattle.hol_conv.specs.Conversion.{in_function, in_argument, in_body, Conv, done, next, Form, neutral, long, HasForm}
 use Rattle.hol_terms.proofs.TypingLaws.{Shifted, shifted_under}
 
 pub form-raise : (d c : ℕ) (form : Form) (types new : List SimpleType) (a : Term) (t : SimpleType) → Shifted d c types new → HasForm form types a t → HasForm form new (raise d c a) t

@@ -1,8 +1,8 @@
 -- Each typed term has exactly one long normal form.
-use Rattle.std.proofs.Common.{List, [], ◌∷◌, ◌≡◌, ◌↔◌, refl, sym, subst, inl, inr}
+use Rattle.std.proofs.Common.{List, [], ◌≡◌, ◌↔◌, sym, subst, inl, inr}
 use Rattle.hol_terms.specs.Terms.{SimpleType, Term}
 use Rattle.hol_terms.specs.Typing.{Typed}
-use Rattle.hol_conv.specs.Conversion.{Step, AreNeighbours, Conv, done, next, Long, IsNormalOf}
+use Rattle.hol_conv.specs.Conversion.{Conv, done, next, IsNormalOf}
 use Rattle.hol_conv.specs.NormalForms.{normal_form}
 use Rattle.hol_conv.proofs.Model.{unique, conv-first}
 use Rattle.hol_conv.proofs.Steps.{conv-trans}

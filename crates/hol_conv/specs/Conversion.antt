@@ -1,5 +1,5 @@
 -- Conversion by beta and eta, and long normal terms.
-use Rattle.std.specs.Prelude.{ℕ, List, [], ◌∷◌, slice_get, ◌≡◌, ◌⊎◌, Some}
+use Rattle.std.specs.Prelude.{List, ◌∷◌, slice_get, ◌≡◌, ◌⊎◌, Some}
 use Rattle.hol_terms.specs.Terms.{SimpleType, base_type, function_type, Term, free, bound, constant, application, abstraction}
 use Rattle.hol_terms.specs.Typing.{Typed, type_of_constant}
 use Rattle.hol_terms.specs.Indices.{raise, put}

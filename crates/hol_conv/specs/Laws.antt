@@ -1,6 +1,6 @@
 -- Laws of conversion, which the layers above rest on. Each is a clause of a function of the module `laws`. Where they speak of
 -- typed terms, the loose indices have the types of the list.
-use Rattle.std.specs.Prelude.{ℕ, List, [], ◌∷◌, ◌≡◌, ◌↔◌}
+use Rattle.std.specs.Prelude.{ℕ, List, ◌∷◌, ◌≡◌, ◌↔◌}
 use Rattle.hol_terms.specs.Terms.{SimpleType, function_type, Term, free, bound, constant, application, abstraction, negation, conjunction, disjunction, implication, forall, exists}
 use Rattle.hol_terms.specs.Typing.{Typed}
 use Rattle.hol_terms.specs.Indices.{raise, put}

@@ -1,5 +1,5 @@
 -- Whether a term is long, as it is computed.
-use Rattle.std.specs.Prelude.{List, [], ◌∷◌, Bool, true, false, ◌&&◌, cond, slice_get, Some, None}
+use Rattle.std.specs.Prelude.{List, ◌∷◌, Bool, false, ◌&&◌, cond, slice_get, Some, None}
 use Rattle.std.specs.declared.option.Option.{Option}
 use Rattle.hol_terms.specs.Terms.{SimpleType, base_type, function_type, Term, free, bound, constant, application, abstraction}
 use Rattle.hol_terms.specs.Typing.{type_of_constant}

@@ -1,6 +1,6 @@
 -- Long normal forms as they are computed, by hereditary substitution: an argument that is put for an index is at once applied to
 -- the arguments that the index had. The calls go down in the type of the index first and then in the term.
-use Rattle.std.specs.Prelude.{ℕ, zero, suc, ◌+◌, ◌-◌, List, [], ◌∷◌, Bool, true, false, eqb, nat_lt, cond}
+use Rattle.std.specs.Prelude.{ℕ, zero, suc, ◌+◌, ◌-◌, List, [], ◌∷◌, eqb, nat_lt, cond}
 use Rattle.hol_terms.specs.Terms.{SimpleType, base_type, function_type, Term, free, bound, constant, application, abstraction, truth_type}
 use Rattle.hol_terms.specs.Typing.{type_of_constant}
 use Rattle.hol_terms.specs.Indices.{raise}

@@ -1,8 +1,8 @@
 -- A term put for a free variable: its type, its order with raising and with itself, and that it is an instance.
-use Rattle.std.proofs.Common.{ℕ, zero, suc, ◌+◌, ◌≤◌, List, [], ◌∷◌, Bool, true, false, cond, ◌≡◌, refl, sym, ap, ap₂, subst, ◌∙◌, arith, inl, inr, ◌⊎◌}
+use Rattle.std.proofs.Common.{ℕ, ◌+◌, List, ◌∷◌, Bool, true, false, cond, ◌≡◌, refl, sym, ap, ap₂, subst, ◌∙◌, arith, inl, inr, ◌⊎◌}
 use Rattle.hol_terms.specs.Terms.{SimpleType, function_type, Term, free, bound, constant, application, abstraction}
 use Rattle.hol_terms.specs.Computed.{same_variable}
-use Rattle.hol_terms.specs.Indices.{raise_index, raise, put_index, put, IsClosedBelow, IsClosed}
+use Rattle.hol_terms.specs.Indices.{raise, put, IsClosedBelow, IsClosed}
 use Rattle.hol_terms.specs.FreeVariables.{IsFree, IsBodyOver, body_over, replace_free}
 use Rattle.hol_terms.specs.Typing.{Typed}
 use Rattle.hol_terms.proofs.Same.{same_variable_of, same_variable_parts}

@@ -1,9 +1,9 @@
 -- Laws of terms, which the layers above rest on. Each is the clause of a function of the module `laws`.
 use Rattle.std.specs.Prelude.{ℕ, suc, ◌+◌, ◌≤◌, List, [], ◌∷◌, ◌++◌, length, Contains, ◌≡◌, ◌↔◌, ◌⊎◌}
-use Rattle.hol_terms.specs.Terms.{SimpleType, Term, free}
+use Rattle.hol_terms.specs.Terms.{SimpleType, Term}
 use Rattle.hol_terms.specs.Typing.{Typed}
 use Rattle.hol_terms.specs.Indices.{raise, put, instance_of, HasIndex, IsClosedBelow, IsClosed}
-use Rattle.hol_terms.specs.FreeVariables.{IsFree, IsBodyOver, body_over, free_variables_of, replace_free}
+use Rattle.hol_terms.specs.FreeVariables.{IsFree, IsBodyOver, free_variables_of, replace_free}
 
 -- types
 
