@@ -10,3 +10,4 @@ pub mod terms;
 mod tests;
 pub mod types;
 pub mod words;
+pub mod writers;
