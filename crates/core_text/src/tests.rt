@@ -7,6 +7,7 @@ use crate::sexps::{Sexp, Sexps};
 use crate::terms::{is_keyword, read_name, read_number, read_preterm, read_term};
 use crate::types::read_type;
 use crate::words::{is_word, numeral};
+use crate::writers::{write_term, write_type};
 use hol_terms::letters::Letter;
 use hol_terms::lists::Text;
 use hol_terms::terms::{Con, Tm, same};
@@ -245,4 +246,24 @@ fn forms_that_are_no_terms(rt: HostRuntime) {
         assert!(rt; preterm_in(alloc, text).is_ok(), "at {text}");
         assert!(rt; term_in(alloc, text).is_err(), "at {text}");
     }
+}
+
+#[test]
+fn written_texts(rt: HostRuntime) -> Result<(), TextFault> {
+    let alloc = rt.alloc();
+    let ty = type_in(alloc, " ( ( O I ) J)")?;
+    assert_eq!(rt; write_type(alloc, &ty)?.as_slice(), b"((O I) J)".as_slice());
+    for text in [
+        "FALSEHOOD",
+        "(V ßx1 (O I))",
+        "(A (SOME (O I)) (L (O I) (A (B 0) (V y I))))",
+        "(A (A IMPLIES TRUTH) (A (ALL I) (L I (A NOT (V p O)))))",
+    ] {
+        let t = term_in(alloc, text)?;
+        assert!(rt;
+            write_term(alloc, &t)?.as_slice() == text.as_bytes(),
+            "at {text}"
+        );
+    }
+    Ok(())
 }
