@@ -8,3 +8,4 @@ pub mod Shapes
 pub mod Spellings
 pub mod Table
 pub mod Texts
+pub mod Writing

@@ -84,7 +84,7 @@ words b (c ∷ w) bs place h e =
     rw (t.0, t.1, t.2) (ap (onto b place) (words c w bs (place + 1) (and_parts _ _ h).1 e)
     ∙ rw (eq-eqb (place + 1) (place + 1) refl) (ap (λ n. piece (word (b ∷ c ∷ w)) place ∷ pieces n bs) z))
 
-whole_word : (w bs : List ℕ) (place : ℕ) → 0 < length w → list_all is_in_word w ≡ true → EndsWord bs → pieces place (w ++ bs) ≡ piece (word w) place ∷ pieces (place + length w) bs
+pub whole_word : (w bs : List ℕ) (place : ℕ) → 0 < length w → list_all is_in_word w ≡ true → EndsWord bs → pieces place (w ++ bs) ≡ piece (word w) place ∷ pieces (place + length w) bs
 whole_word [] bs place some h e = absurd (omega arith)
 whole_word (b ∷ w) bs place some h e =
     let z : place + 1 + length w ≡ place + length (b ∷ w) = omega arith in

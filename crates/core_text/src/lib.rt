@@ -6,5 +6,8 @@ pub mod faults;
 pub mod pieces;
 pub mod sexps;
 pub mod terms;
+#[cfg(test)]
+mod tests;
 pub mod types;
 pub mod words;
+pub mod writers;

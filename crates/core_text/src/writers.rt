@@ -1,0 +1,120 @@
+//! Writes the core form of types and terms.
+
+ghost use Rattle.std.specs.Prelude.{◌≡◌, ◌++◌, IfOk, decimal, encode_utf8_all};
+ghost use Rattle.hol_terms.specs.Terms.{plain_constant, plain_term, plain_type};
+ghost use Rattle.core_text.specs.CoreForms.{constant_form, term_form, type_form};
+ghost use Rattle.core_text.specs.Written.{written};
+
+use hol_terms::lists::Text;
+use hol_terms::names::Name;
+use hol_terms::terms::{Con, Tm};
+use hol_terms::types::Ty;
+use std::alloc::{AllocError, Global};
+
+/// Adds a type at the end of the text.
+fn append_type(out: &mut Text, ty: &Ty) -> Result<(), AllocError>
+    ensures { IfOk result (λ _. out.new ≡ out.old ++ written (type_form (plain_type ty.now))) }
+{
+    match ty {
+        Ty::Base(letter) => out.push(letter.byte()),
+        Ty::Fun(result_type, argument) => {
+            out.push(b'(')?;
+            append_type(out, result_type)?;
+            out.push(b' ')?;
+            append_type(out, argument)?;
+            out.push(b')')
+        }
+    }
+}
+
+/// Adds a constant at the end of the text.
+fn append_constant(out: &mut Text, con: &Con) -> Result<(), AllocError>
+    ensures { IfOk result (λ _. out.new ≡ out.old ++ written (constant_form (plain_constant con.now))) }
+{
+    match con {
+        Con::Not => out.append(b"NOT"),
+        Con::And => out.append(b"AND"),
+        Con::Or => out.append(b"OR"),
+        Con::Implies => out.append(b"IMPLIES"),
+        Con::Truth => out.append(b"TRUTH"),
+        Con::Falsehood => out.append(b"FALSEHOOD"),
+        Con::All(ty) => {
+            out.append(b"(ALL ")?;
+            append_type(out, ty)?;
+            out.push(b')')
+        }
+        Con::Ex(ty) => {
+            out.append(b"(SOME ")?;
+            append_type(out, ty)?;
+            out.push(b')')
+        }
+    }
+}
+
+/// Adds a name at the end of the text.
+fn append_name(alloc: Global, out: &mut Text, name: &Name) -> Result<(), AllocError>
+    ensures { IfOk result (λ _. out.new ≡ out.old ++ encode_utf8_all name.now) }
+{
+    let text: String = name.characters().iter().copied().collect(alloc)?;
+    out.append(text.as_bytes())
+}
+
+/// Adds a number at the end of the text, in decimal.
+fn append_number(alloc: Global, out: &mut Text, number: u64) -> Result<(), AllocError>
+    ensures { IfOk result (λ _. out.new ≡ out.old ++ decimal number) }
+{
+    let text = format!(in alloc; "{number}")?;
+    out.append(text.as_bytes())
+}
+
+/// Adds a term at the end of the text.
+fn append_term(alloc: Global, out: &mut Text, t: &Tm) -> Result<(), AllocError>
+    ensures { IfOk result (λ _. out.new ≡ out.old ++ written (term_form (plain_term t.now))) }
+{
+    match t {
+        Tm::Free(name, ty) => {
+            out.append(b"(V ")?;
+            append_name(alloc, out, name)?;
+            out.push(b' ')?;
+            append_type(out, ty)?;
+        }
+        Tm::Bound(index) => {
+            out.append(b"(B ")?;
+            append_number(alloc, out, *index)?;
+        }
+        Tm::Con(con) => return append_constant(out, con),
+        Tm::App(function, argument) => {
+            out.append(b"(A ")?;
+            append_term(alloc, out, function)?;
+            out.push(b' ')?;
+            append_term(alloc, out, argument)?;
+        }
+        Tm::Lam(ty, body) => {
+            out.append(b"(L ")?;
+            append_type(out, ty)?;
+            out.push(b' ')?;
+            append_term(alloc, out, body)?;
+        }
+    }
+    out.push(b')')
+}
+
+/// The core form of a type, with one space between members, none behind `(` and none before `)`. An error comes only where memory
+/// is wanting.
+pub fn write_type(alloc: Global, ty: &Ty) -> Result<Text, AllocError>
+    ensures { IfOk result (λ text. text ≡ written (type_form (plain_type ty.now))) }
+{
+    let mut out = Text::new(alloc);
+    append_type(&mut out, ty)?;
+    Ok(out)
+}
+
+/// The core form of a term, with one space between members, none behind `(` and none before `)`. An error comes only where memory
+/// is wanting.
+pub fn write_term(alloc: Global, t: &Tm) -> Result<Text, AllocError>
+    ensures { IfOk result (λ text. text ≡ written (term_form (plain_term t.now))) }
+{
+    let mut out = Text::new(alloc);
+    append_term(alloc, &mut out, t)?;
+    Ok(out)
+}
