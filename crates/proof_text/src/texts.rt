@@ -189,3 +189,6 @@ pub fn read_proof(alloc: Global, bytes: &[u8]) -> Result<Option<ProofText>, Allo
         None => Ok(None),
     }
 }
+
+#[cfg(test)]
+mod tests;
