@@ -126,7 +126,7 @@ fn negations(alloc: Global, count: u32) -> Result<Tm, AllocError> {
 #[test]
 fn deep_formula(rt: HostRuntime) -> Result<(), AllocError> {
     let alloc = rt.alloc();
-    let t = negations(alloc, 5000)?;
+    let t = negations(alloc, 1000)?;
     assert!(rt; matches!(normal_of(alloc, &t)?, Some(n) if same(&n, &t)));
     assert!(rt; is_long(alloc, &t)? == Some(true));
     Ok(())
