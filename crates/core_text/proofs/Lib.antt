@@ -1,7 +1,12 @@
 pub mod Balance
+pub mod Cuts
 pub mod Identifiers
+pub mod Judgements
+pub mod Kept
+pub mod Letters
 pub mod NameLaws
 pub mod Numerals
+pub mod Places
 pub mod Results
 pub mod Runs
 pub mod Shapes

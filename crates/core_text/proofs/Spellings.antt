@@ -51,7 +51,7 @@ token-kept (piece opening k ∷ ps) = ap (λ l. opening ∷ l) (token-kept ps)
 token-kept (piece closing k ∷ ps) = ap (λ l. closing ∷ l) (token-kept ps)
 token-kept (piece (word w) k ∷ ps) = ap (λ l. word w ∷ l) (token-kept ps)
 
-map_append : (xs ys : List Piece) → map token (xs ++ ys) ≡ map token xs ++ map token ys
+pub map_append : (xs ys : List Piece) → map token (xs ++ ys) ≡ map token xs ++ map token ys
 map_append [] ys = refl
 map_append (p ∷ xs) ys = ap (λ l. token p ∷ l) (map_append xs ys)
 

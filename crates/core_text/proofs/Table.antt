@@ -13,11 +13,11 @@ use Rattle.core_text.specs.Words.{is_letter, is_name, same_bytes}
 use Rattle.core_text.proofs.NameLaws.{IsName-chars, name_found, same_bytes-only}
 use Rattle.core_text.proofs.Shapes.{number_shape, pair_shape, triple_shape, word_shape}
 
-bind_ok : {A B : Type 0} (r : Result A ℕ) (f : A → Result B ℕ) (b : B) → (r >>= f) ≡ Ok b → (a : A) × (r ≡ Ok a) × (f a ≡ Ok b)
+pub bind_ok : {A B E : Type 0} (r : Result A E) (f : A → Result B E) (b : B) → (r >>= f) ≡ Ok b → (a : A) × (r ≡ Ok a) × (f a ≡ Ok b)
 bind_ok (Ok a) f b e = (a, refl, e)
 bind_ok (Err k) f b e = cc
 
-choice_ok : {A : Type 0} (test : Bool) (p q : Result A ℕ) (a : A) → (if test then p else q) ≡ Ok a → ((test ≡ true) × (p ≡ Ok a)) ⊎ (q ≡ Ok a)
+pub choice_ok : {A : Type 0} (test : Bool) (p q : Result A ℕ) (a : A) → (if test then p else q) ≡ Ok a → ((test ≡ true) × (p ≡ Ok a)) ⊎ (q ≡ Ok a)
 choice_ok true p q a e = inl (refl, e)
 choice_ok false p q a e = inr e
 
@@ -212,7 +212,7 @@ term_spelled (abstraction s b) p e h =
 
 -- a form placed somewhere
 mutual
-  somewhere : (f : Form) → (p : Placed) × (form p ≡ f)
+  pub somewhere : (f : Form) → (p : Placed) × (form p ≡ f)
   somewhere (word_form w) = (word_at w 0, refl)
   somewhere (number_form n) = (number_at n 0, refl)
   somewhere (list_form fs) = let ps = all_somewhere fs in (list_at ps.0 0, ap list_form ps.1)

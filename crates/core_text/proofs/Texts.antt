@@ -8,7 +8,8 @@ use Rattle.core_text.specs.Placed.{Placed, form, form_of, kept, layout, placed}
 use Rattle.core_text.specs.declared.sexps.Sexp.{Sexp}
 use Rattle.core_text.specs.Faults.{IsFaultUnlessMemory, first_fault, form_fault}
 use Rattle.core_text.specs.declared.faults.TextFault.{TextFault}
-use Rattle.core_text.specs.declared.faults.TextFault.TheVariants.{Memory, NotUtf8, BadToken, Unbalanced, TooDeep, Trailing, BadForm, IllTyped, LooseIndex}
+use Rattle.core_text.specs.declared.faults.TextFault.TheVariants.{Memory, NotUtf8}
+use Rattle.core_text.proofs.Results.{fault_was_found}
 use Rattle.core_text.proofs.Balance.{balanced, balanced-spelling, none-first_fault}
 use Rattle.core_text.proofs.Spellings.{same_form, token-kept, token-layout}
 
@@ -38,18 +39,6 @@ text_of bytes f utf8 words h clean =
     let spelled : tokens bytes ≡ spelling (form f) = sym (token-kept (pieces 0 bytes)) ∙ ap (map token) (sym h) ∙ token-layout f in
     let shallow = and_parts _ _ (sym (whole_balance bytes (form f) words spelled) ∙ is_none_of _ clean) in
     record { utf8 = utf8; spelled = spelled; words = words; depth = leb-true (nesting (form f)) 5000 shallow.0 }
-
--- a fault other than want of memory was found
-pub fault_was_found : (e : TextFault) (found : Option TextFault) → IsFaultUnlessMemory e found → e ≢ Memory → found ≡ None → ⊥
-fault_was_found Memory found h other none = other refl
-fault_was_found NotUtf8 found h other none = cc
-fault_was_found (BadToken k) found h other none = cc
-fault_was_found (Unbalanced k) found h other none = cc
-fault_was_found (TooDeep k) found h other none = cc
-fault_was_found (Trailing k) found h other none = cc
-fault_was_found (BadForm k) found h other none = cc
-fault_was_found (IllTyped k) found h other none = cc
-fault_was_found (LooseIndex k) found h other none = cc
 
 -- from the pieces' reader to the text's, at UTF-8
 module _ (bytes : List ℕ) (utf8 : IsUtf8 bytes) where

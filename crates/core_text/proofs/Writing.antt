@@ -86,7 +86,7 @@ others_end no_forms rest ends = ends
 others_end (more_forms f fs) rest ends = refl
 
 mutual
-  form_spells : (f : Form) → IsWellSpelled f → Spells (written f) (spelling f)
+  pub form_spells : (f : Form) → IsWellSpelled f → Spells (written f) (spelling f)
   form_spells (word_form w) h = word_spells w (word_bytes w h)
   form_spells (number_form n) h = word_spells (decimal n) (number_bytes n h)
   form_spells (list_form fs) h = λ rest place ends.

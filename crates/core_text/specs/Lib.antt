@@ -1,6 +1,9 @@
 pub mod CoreForms
 pub mod Faults
 pub mod Forms
+pub mod Judged
+pub mod Known
+pub mod Laws
 pub mod Lexed
 pub mod Open
 pub mod Placed

@@ -1,7 +1,7 @@
 -- Forms with the places where they stand in a text.
-use Rattle.std.specs.Prelude.{ℕ, List, [], ◌∷◌, ◌++◌, decimal}
-use Rattle.core_text.specs.Tokens.{opening, closing, word, Piece, piece}
-use Rattle.core_text.specs.Forms.{Form, word_form, number_form, list_form, Forms, no_forms, more_forms}
+use Rattle.std.specs.Prelude.{◌≡◌, ℕ, List, [], ◌∷◌, ◌++◌, decimal, map}
+use Rattle.core_text.specs.Tokens.{opening, closing, word, Piece, piece, pieces}
+use Rattle.core_text.specs.Forms.{Form, word_form, number_form, list_form, Forms, no_forms, more_forms, IsTextOf}
 use Rattle.core_text.specs.declared.sexps.Sexp.{Sexp}
 use Rattle.core_text.specs.declared.sexps.Sexp.TheVariants as sexp
 use Rattle.core_text.specs.declared.sexps.Sexps.{Sexps}
@@ -50,6 +50,19 @@ place_of (word_at w k) = k
 place_of (number_at n k) = k
 place_of (list_at fs k) = k
 
+-- the first, the second and the third member of a list; any other form stands for itself
+abbrev pub first_of : Placed → Placed
+first_of (list_at (more_at x ps) k) = x
+first_of p = p
+
+abbrev pub second_of : Placed → Placed
+second_of (list_at (more_at x (more_at y ps)) k) = y
+second_of p = p
+
+abbrev pub third_of : Placed → Placed
+third_of (list_at (more_at x (more_at y (more_at z ps))) k) = z
+third_of p = p
+
 -- a piece, with 0 for the place of a closing bracket, which forms don't keep
 abbrev pub kept : Piece → Piece
 kept (piece opening k) = piece opening k
@@ -66,3 +79,8 @@ abbrev mutual
   pub layout_of_all : PlacedAll → List Piece
   layout_of_all none_at = []
   layout_of_all (more_at f fs) = layout f ++ layout_of_all fs
+
+-- the bytes are a text of this form, whose parts stand at these places
+pub record IsPlacedText (bytes : List ℕ) (f : Placed) : Type 0 where
+  pub text : IsTextOf bytes (form f)
+  pub places : layout f ≡ map kept (pieces 0 bytes)

@@ -3,11 +3,13 @@
 
 pub mod brackets;
 pub mod faults;
+pub mod laws;
 pub mod pieces;
 pub mod sexps;
 pub mod terms;
 #[cfg(test)]
 mod tests;
 pub mod types;
+pub mod typings;
 pub mod words;
 pub mod writers;

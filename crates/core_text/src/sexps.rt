@@ -1,7 +1,7 @@
 //! Bracketed forms.
 
 ghost use Rattle.std.specs.Prelude.{◌≡◌};
-ghost use Rattle.core_text.specs.Placed.{place_of, placed};
+ghost use Rattle.core_text.specs.Placed.{first_of, place_of, placed, second_of, third_of};
 
 use hol_terms::lists::Text;
 
@@ -43,5 +43,53 @@ impl Sexp {
             Sexp::Number(_, place) => *place,
             Sexp::List(_, place) => *place,
         }
+    }
+
+    /// The first member of a list; any other form stands for itself.
+    pub fn first(&self) -> &Sexp
+        ensures { placed result.now ≡ first_of (placed self.now) }
+    {
+        let Sexp::List(all, _) = self else {
+            return self;
+        };
+        let Sexps::More(member, _) = all else {
+            return self;
+        };
+        &**member
+    }
+
+    /// The second member of a list; any other form stands for itself.
+    pub fn second(&self) -> &Sexp
+        ensures { placed result.now ≡ second_of (placed self.now) }
+    {
+        let Sexp::List(all, _) = self else {
+            return self;
+        };
+        let Sexps::More(_, rest) = all else {
+            return self;
+        };
+        let Sexps::More(member, _) = &**rest else {
+            return self;
+        };
+        &**member
+    }
+
+    /// The third member of a list; any other form stands for itself.
+    pub fn third(&self) -> &Sexp
+        ensures { placed result.now ≡ third_of (placed self.now) }
+    {
+        let Sexp::List(all, _) = self else {
+            return self;
+        };
+        let Sexps::More(_, rest) = all else {
+            return self;
+        };
+        let Sexps::More(_, rest) = &**rest else {
+            return self;
+        };
+        let Sexps::More(member, _) = &**rest else {
+            return self;
+        };
+        &**member
     }
 }

@@ -4,6 +4,7 @@ ghost use Rattle.std.specs.Prelude.{◌≡◌, ◌≢◌, IfErr, IfOk, List, ℕ
 ghost use Rattle.hol_terms.specs.Terms.{Term, constant, plain_constant, plain_term};
 ghost use Rattle.core_text.specs.CoreForms.{IsFormOfName, IsFormOfTerm, IsFormOfTyped};
 ghost use Rattle.core_text.specs.Forms.{number_form};
+ghost use Rattle.core_text.specs.Judged.{Answers, reading_at};
 ghost use Rattle.core_text.specs.Placed.{form_of, placed, word_at};
 ghost use Rattle.core_text.specs.Reading.{Gives, constant_in, name_at, number_in, pair_at, term_at, variable_at};
 ghost use Rattle.core_text.specs.Words.{same_bytes};
@@ -11,9 +12,9 @@ ghost use Rattle.core_text.specs.Words.{same_bytes};
 use crate::faults::TextFault;
 use crate::sexps::{Sexp, Sexps};
 use crate::types::type_at;
+use crate::typings::judge;
 use hol_terms::names::{Name, NameFault};
 use hol_terms::terms::{Con, Tm};
-use hol_terms::typing::type_of;
 use std::alloc::Global;
 
 /// Whether the bytes are the word.
@@ -147,9 +148,21 @@ fn term_at(alloc: Global, s: &Sexp) -> Result<Tm, TextFault>
     }
 }
 
+/// The typed term of a form.
+fn reading_at(alloc: Global, s: &Sexp) -> Result<Tm, TextFault>
+    ensures { Answers plain_term result (reading_at (placed s.now)) }
+{
+    let t = term_at(alloc, s)?;
+    match judge(alloc, &t, s) {
+        Ok(_) => Ok(t),
+        Err(fault) => Err(fault),
+    }
+}
+
 /// Reads a term, typed or not. `BadForm` has the place of the first form, a list before its members, that has no place in the
 /// table.
 pub fn read_preterm(alloc: Global, s: &Sexp) -> Result<Tm, TextFault>
+    ensures answer { Gives plain_term result (term_at (placed s.now)) }
     ensures term { IfOk result (λ t. IsFormOfTerm (form_of s.now) (plain_term t)) }
     ensures no_term { IfErr result (λ e. e ≢ TextFault.Memory → (t : Term) → IsFormOfTerm (form_of s.now) t → ⊥) }
 {
@@ -158,6 +171,7 @@ pub fn read_preterm(alloc: Global, s: &Sexp) -> Result<Tm, TextFault>
 
 /// Reads a name. `BadForm` comes at the place of a form that isn't one.
 pub fn read_name(alloc: Global, s: &Sexp) -> Result<Name, TextFault>
+    ensures answer { Gives (λ name. name) result (name_at (placed s.now)) }
     ensures name { IfOk result (λ name. IsFormOfName (form_of s.now) name) }
     ensures no_name { IfErr result (λ e. e ≢ TextFault.Memory → (name : List ℕ) → IsFormOfName (form_of s.now) name → ⊥) }
 {
@@ -166,20 +180,22 @@ pub fn read_name(alloc: Global, s: &Sexp) -> Result<Name, TextFault>
 
 /// Reads a number. `BadForm` comes at the place of a form that isn't one.
 pub fn read_number(s: &Sexp) -> Result<u64, TextFault>
+    ensures answer { Gives (λ n. n) result (number_in (placed s.now)) }
+    ensures no_memory { IfErr result (λ e. e ≢ TextFault.Memory) }
     ensures number { IfOk result (λ n. form_of s.now ≡ number_form n) }
     ensures no_number { IfErr result (λ e. (n : ℕ) → form_of s.now ≡ number_form n → ⊥) }
 {
     number_in(s)
 }
 
-/// Reads a term that has a type and no loose index.
+/// Reads a term that has a type and no loose index. `BadForm` has the place of the first form, a list before its members, that
+/// has no place in the table; where there is none, `LooseIndex` has the place of the first bound index with no more abstractions
+/// around it than its number; and where there is none of these either, `IllTyped` has the place of the application that fails first,
+/// parts before wholes and left before right.
 pub fn read_term(alloc: Global, s: &Sexp) -> Result<Tm, TextFault>
+    ensures answer { Answers plain_term result (reading_at (placed s.now)) }
     ensures term { IfOk result (λ t. IsFormOfTyped (form_of s.now) (plain_term t)) }
     ensures no_term { IfErr result (λ e. e ≢ TextFault.Memory → (t : Term) → IsFormOfTyped (form_of s.now) t → ⊥) }
 {
-    let t = read_preterm(alloc, s)?;
-    match type_of(alloc, &t)? {
-        Some(_) => Ok(t),
-        None => Err(TextFault::IllTyped(s.place())),
-    }
+    reading_at(alloc, s)
 }

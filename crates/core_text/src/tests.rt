@@ -6,6 +6,7 @@ use crate::pieces::{Piece, next_piece};
 use crate::sexps::{Sexp, Sexps};
 use crate::terms::{is_keyword, read_name, read_number, read_preterm, read_term};
 use crate::types::read_type;
+use crate::typings::judge;
 use crate::words::{is_word, numeral};
 use crate::writers::{write_term, write_type};
 use hol_terms::letters::Letter;
@@ -236,16 +237,106 @@ fn forms_that_are_no_terms(rt: HostRuntime) {
             "at {text}"
         );
     }
-    for text in [
-        "(B 0)",
-        "(L I (B 1))",
-        "(A TRUTH TRUTH)",
-        "(A NOT (V x I))",
-        "(A (ALL I) (L I (B 0)))",
+}
+
+#[test]
+fn faults_of_terms_with_their_places(rt: HostRuntime) {
+    let alloc = rt.alloc();
+    for (text, want) in [
+        ("(B 0)", TextFault::LooseIndex(0)),
+        ("(L I (B 1))", TextFault::LooseIndex(5)),
+        ("(L I (L O (B 2)))", TextFault::LooseIndex(10)),
+        ("(A (B 3) (B 0))", TextFault::LooseIndex(3)),
+        ("(A (L I (B 0)) (B 0))", TextFault::LooseIndex(15)),
+        ("(A (A TRUTH TRUTH) (B 0))", TextFault::LooseIndex(19)),
+        ("(A (B 0) x)", TextFault::BadForm(9)),
+        ("(A TRUTH TRUTH)", TextFault::IllTyped(0)),
+        ("(A NOT (V x I))", TextFault::IllTyped(0)),
+        ("(A (ALL I) (L I (B 0)))", TextFault::IllTyped(0)),
+        ("(A NOT (A NOT (V x I)))", TextFault::IllTyped(7)),
+        ("(A (A NOT NOT) (A TRUTH TRUTH))", TextFault::IllTyped(3)),
+        ("(A NOT (L I (A (B 0) TRUTH)))", TextFault::IllTyped(12)),
+        ("(L (O I) (A (B 0) (B 0)))", TextFault::IllTyped(9)),
+        ("(A TRUTH (A NOT NOT))", TextFault::IllTyped(9)),
     ] {
-        assert!(rt; preterm_in(alloc, text).is_ok(), "at {text}");
-        assert!(rt; term_in(alloc, text).is_err(), "at {text}");
+        assert!(rt;
+            matches!(term_in(alloc, text), Err(fault) if fault == want),
+            "at {text}"
+        );
     }
+    for text in ["(B 0)", "(A TRUTH TRUTH)", "(A NOT (V x I))"] {
+        assert!(rt; preterm_in(alloc, text).is_ok(), "at {text}");
+    }
+}
+
+#[test]
+fn judged_terms(rt: HostRuntime) -> Result<(), TextFault> {
+    let alloc = rt.alloc();
+    for (text, want) in [
+        ("(L I (B 0))", "(I I)"),
+        ("(A IMPLIES TRUTH)", "(O O)"),
+        ("(L I (L (O I) (A (B 0) (B 1))))", "((O (O I)) I)"),
+        ("(L I (A (L J (V x (O I))) (V y J)))", "((O I) I)"),
+        ("(SOME (I J))", "(O (O (I J)))"),
+    ] {
+        let form = read_sexp(alloc, text.as_bytes())?;
+        let term = read_preterm(alloc, &form)?;
+        let ty = judge(alloc, &term, &form)?;
+        assert!(rt; ty.same(&type_in(alloc, want)?), "at {text}");
+    }
+    Ok(())
+}
+
+/// A text between two others, so many times each.
+fn repeated(
+    alloc: Global,
+    front: &[u8],
+    middle: &[u8],
+    back: &[u8],
+    times: u32,
+) -> Result<Text, AllocError> {
+    let mut text = Text::new(alloc);
+    for _ in 0..times {
+        text.append(front)?;
+    }
+    text.append(middle)?;
+    for _ in 0..times {
+        text.append(back)?;
+    }
+    Ok(text)
+}
+
+#[test]
+fn deep_texts(rt: HostRuntime) -> Result<(), TextFault> {
+    let alloc = rt.alloc();
+    for (front, middle, back, times) in [
+        ("(A NOT ", "TRUTH", ")", 5000),
+        ("(L I ", "(B 4998)", ")", 4999),
+        ("(A (L O (B 0)) ", "(V x O)", ")", 4998),
+        ("(A (L I ", "(V x O)", ") (V y I))", 2499),
+    ] {
+        let text = repeated(
+            alloc,
+            front.as_bytes(),
+            middle.as_bytes(),
+            back.as_bytes(),
+            times,
+        )?;
+        let term = read_term(alloc, &read_sexp(alloc, text.as_slice())?)?;
+        assert!(rt; write_term(alloc, &term)?.as_slice() == text.as_slice());
+    }
+    for (front, middle, back) in [("(O ", "O", ")"), ("(", "O", " I)")] {
+        let text = repeated(
+            alloc,
+            front.as_bytes(),
+            middle.as_bytes(),
+            back.as_bytes(),
+            5000,
+        )?;
+        let ty = read_type(alloc, &read_sexp(alloc, text.as_slice())?)?;
+        assert!(rt; write_type(alloc, &ty)?.as_slice() == text.as_slice());
+    }
+    Ok(())
 }
 
 #[test]

@@ -51,6 +51,7 @@ pub fn type_at(alloc: Global, s: &Sexp) -> Result<Ty, TextFault>
 
 /// Reads a type. `BadForm` has the place of the first form, a list before its members, that has no place in the table.
 pub fn read_type(alloc: Global, s: &Sexp) -> Result<Ty, TextFault>
+    ensures answer { Gives plain_type result (type_at (placed s.now)) }
     ensures ty { IfOk result (λ ty. IsFormOfType (form_of s.now) (plain_type ty)) }
     ensures no_type { IfErr result (λ e. e ≢ TextFault.Memory → (ty : SimpleType) → IsFormOfType (form_of s.now) ty → ⊥) }
 {

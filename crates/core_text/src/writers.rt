@@ -1,8 +1,9 @@
 //! Writes the core form of types and terms.
 
 ghost use Rattle.std.specs.Prelude.{◌≡◌, ◌++◌, IfOk, decimal, encode_utf8_all};
+ghost use Rattle.hol_terms.specs.Names.{IsName};
 ghost use Rattle.hol_terms.specs.Terms.{plain_constant, plain_term, plain_type};
-ghost use Rattle.core_text.specs.CoreForms.{constant_form, term_form, type_form};
+ghost use Rattle.core_text.specs.CoreForms.{HasLetters, HasNames, constant_form, term_form, type_form};
 ghost use Rattle.core_text.specs.Written.{written};
 
 use hol_terms::lists::Text;
@@ -52,15 +53,17 @@ fn append_constant(out: &mut Text, con: &Con) -> Result<(), AllocError>
 }
 
 /// Adds a name at the end of the text.
-fn append_name(alloc: Global, out: &mut Text, name: &Name) -> Result<(), AllocError>
-    ensures { IfOk result (λ _. out.new ≡ out.old ++ encode_utf8_all name.now) }
+pub fn append_name(alloc: Global, out: &mut Text, name: &Name) -> Result<(), AllocError>
+    ensures text { IfOk result (λ _. out.new ≡ out.old ++ encode_utf8_all name.now) }
+    ensures named { IfOk result (λ _. IsName name.now) }
 {
-    let text: String = name.characters().iter().copied().collect(alloc)?;
+    let characters = name.characters();
+    let text: String = characters.iter().copied().collect(alloc)?;
     out.append(text.as_bytes())
 }
 
 /// Adds a number at the end of the text, in decimal.
-fn append_number(alloc: Global, out: &mut Text, number: u64) -> Result<(), AllocError>
+pub fn append_number(alloc: Global, out: &mut Text, number: u64) -> Result<(), AllocError>
     ensures { IfOk result (λ _. out.new ≡ out.old ++ decimal number) }
 {
     let text = format!(in alloc; "{number}")?;
@@ -68,8 +71,10 @@ fn append_number(alloc: Global, out: &mut Text, number: u64) -> Result<(), Alloc
 }
 
 /// Adds a term at the end of the text.
-fn append_term(alloc: Global, out: &mut Text, t: &Tm) -> Result<(), AllocError>
-    ensures { IfOk result (λ _. out.new ≡ out.old ++ written (term_form (plain_term t.now))) }
+#[tactic(auto, using(crate::proofs::Letters::type_letters, crate::proofs::Letters::constant_letters))]
+pub fn append_term(alloc: Global, out: &mut Text, t: &Tm) -> Result<(), AllocError>
+    ensures names { IfOk result (λ _. HasNames (plain_term t.now)) }
+    ensures text { IfOk result (λ _. out.new ≡ out.old ++ written (term_form (plain_term t.now))) }
 {
     match t {
         Tm::Free(name, ty) => {
@@ -77,42 +82,48 @@ fn append_term(alloc: Global, out: &mut Text, t: &Tm) -> Result<(), AllocError>
             append_name(alloc, out, name)?;
             out.push(b' ')?;
             append_type(out, ty)?;
+            out.push(b')')
         }
         Tm::Bound(index) => {
             out.append(b"(B ")?;
             append_number(alloc, out, *index)?;
+            out.push(b')')
         }
-        Tm::Con(con) => return append_constant(out, con),
+        Tm::Con(con) => append_constant(out, con),
         Tm::App(function, argument) => {
             out.append(b"(A ")?;
             append_term(alloc, out, function)?;
             out.push(b' ')?;
             append_term(alloc, out, argument)?;
+            out.push(b')')
         }
         Tm::Lam(ty, body) => {
             out.append(b"(L ")?;
             append_type(out, ty)?;
             out.push(b' ')?;
             append_term(alloc, out, body)?;
+            out.push(b')')
         }
     }
-    out.push(b')')
 }
 
-/// The core form of a type, with one space between members, none behind `(` and none before `)`. An error comes only where memory
-/// is wanting.
+/// The core form of a type, with one space between members, none behind `(` and none before `)`. It is read again as that type,
+/// within the limits of reading. An error comes only where memory is wanting.
+#[tactic(auto, using(crate::proofs::Letters::type_letters))]
 pub fn write_type(alloc: Global, ty: &Ty) -> Result<Text, AllocError>
-    ensures { IfOk result (λ text. text ≡ written (type_form (plain_type ty.now))) }
+    ensures letters { HasLetters (plain_type ty.now) }
+    ensures text { IfOk result (λ text. text ≡ written (type_form (plain_type ty.now))) }
 {
     let mut out = Text::new(alloc);
     append_type(&mut out, ty)?;
     Ok(out)
 }
 
-/// The core form of a term, with one space between members, none behind `(` and none before `)`. An error comes only where memory
-/// is wanting.
+/// The core form of a term, with one space between members, none behind `(` and none before `)`. Where the term has a type, it is
+/// read again as that term, within the limits of reading. An error comes only where memory is wanting.
 pub fn write_term(alloc: Global, t: &Tm) -> Result<Text, AllocError>
-    ensures { IfOk result (λ text. text ≡ written (term_form (plain_term t.now))) }
+    ensures names { IfOk result (λ _. HasNames (plain_term t.now)) }
+    ensures text { IfOk result (λ text. text ≡ written (term_form (plain_term t.now))) }
 {
     let mut out = Text::new(alloc);
     append_term(alloc, &mut out, t)?;

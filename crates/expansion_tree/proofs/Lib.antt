@@ -1,2 +1,9 @@
 pub mod Chains
+pub mod Counting
+pub mod Deepening
+pub mod Excluding
+pub mod Formulas
+pub mod Returning
+pub mod Stepping
 pub mod Walks
+pub mod Tautologies

@@ -1,7 +1,13 @@
 pub mod Trees
 pub mod Matrices
 pub mod Standing
+pub mod Occurrences
+pub mod Counted
+pub mod Faults
+pub mod Budgets
 pub mod Stood
 pub mod Codes
 pub mod Copies
 pub mod Fitted
+pub mod Kept
+pub mod Laws

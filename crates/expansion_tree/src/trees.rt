@@ -56,23 +56,30 @@ impl Tree {
         match self {
             Tree::Leaf => Ok(Tree::Leaf),
             Tree::Const => Ok(Tree::Const),
-            Tree::Not(t) => {
-                let t = t.copy(alloc)?;
-                Ok(Tree::Not(Box::new(alloc, t)?))
-            }
+            Tree::Not(t) => Ok(Tree::Not(boxed(alloc, t)?)),
             Tree::Bin(op, t, u) => {
-                let t = t.copy(alloc)?;
-                let u = u.copy(alloc)?;
-                Ok(Tree::Bin(*op, Box::new(alloc, t)?, Box::new(alloc, u)?))
+                let t = boxed(alloc, t)?;
+                let u = boxed(alloc, u)?;
+                Ok(Tree::Bin(*op, t, u))
             }
             Tree::Sel(name, t) => {
                 let name = name.copy(alloc)?;
-                let t = t.copy(alloc)?;
-                Ok(Tree::Sel(name, Box::new(alloc, t)?))
+                let t = boxed(alloc, t)?;
+                Ok(Tree::Sel(name, t))
             }
             Tree::Exp(branches) => Ok(Tree::Exp(branches.copy(alloc)?)),
         }
     }
+}
+
+/// An equal tree in a box.
+#[cycle(copy)]
+#[inline(never)]
+fn boxed(alloc: Global, tree: &Tree) -> Result<Box<Tree>, AllocError>
+    ensures { IfOk result (λ copied. plain_tree copied.value ≡ plain_tree tree.now) }
+{
+    let tree = tree.copy(alloc)?;
+    Ok(Box::new(alloc, tree)?)
 }
 
 impl Branches {

@@ -1,6 +1,7 @@
 pub mod Commuting
 pub mod Existence
 pub mod Heights
+pub mod LongForms
 pub mod Longness
 pub mod Lookups
 pub mod Model

@@ -3,7 +3,9 @@ use Rattle.std.proofs.Common.{ℕ, ◌+◌, List, [], ◌∷◌, Bool, true, fal
 use Rattle.hol_terms.specs.Terms.{SimpleType, base_type, function_type, Term, free, bound, constant, application, abstraction}
 use Rattle.hol_terms.specs.Typing.{type_of_constant, Typed}
 use Rattle.hol_terms.specs.Computed.{same_type}
-use Rattle.hol_terms.proofs.Same.{same_type_refl, same_type_only}
+use Rattle.hol_terms.specs.Found.{found_type, split_found}
+use Rattle.hol_terms.specs.declared.typing.FoundFunction.{FoundFunction}
+use Rattle.hol_terms.proofs.Same.{same_type_refl, same_type_only, found_other}
 use Rattle.hol_terms.proofs.TypingLaws.{typed_once}
 use Rattle.hol_conv.specs.Conversion.{IsBase, Long, Neutral}
 use Rattle.hol_conv.specs.LongTests.{with_argument, is_at_base, neutral_type, is_long}
@@ -106,3 +108,38 @@ is_long_at_other types s p r b h = by_test (same_type s p) refl
     by_test : (x : Bool) → same_type s p ≡ x → (x && is_long (s ∷ types) b r) ≡ false
     by_test true e = absurd (h (same_type_only s p e))
     by_test false e = refl
+
+-- the type of a head with one more argument, by the parts of the type that was found
+
+pub argument_right : (parts : FoundFunction) (t : SimpleType) (accepts : SimpleType → Bool) → split_found (Some parts) t
+    → accepts (found_type parts.argument) ≡ true → with_argument (Some t) accepts ≡ Some (found_type parts.result_type)
+argument_right parts (base_type l) accepts h e = absurd h
+argument_right parts (function_type r s) accepts h e =
+    ap (λ (s : SimpleType). cond (accepts s) (Some r) None) (sym h.1) ∙ ap (λ (b : Bool). cond b (Some r) None) e ∙ ap (λ (r : SimpleType). Some r) (sym h.0)
+
+pub argument_wrong : (parts : FoundFunction) (t : SimpleType) (accepts : SimpleType → Bool) → split_found (Some parts) t
+    → accepts (found_type parts.argument) ≡ false → with_argument (Some t) accepts ≡ None
+argument_wrong parts (base_type l) accepts h e = absurd h
+argument_wrong parts (function_type r s) accepts h e =
+    ap (λ (s : SimpleType). cond (accepts s) (Some r) None) (sym h.1) ∙ ap (λ (b : Bool). cond b (Some r) None) e
+
+pub argument_at_letter : (t : SimpleType) (accepts : SimpleType → Bool) → split_found None t → with_argument (Some t) accepts ≡ None
+argument_at_letter (base_type l) accepts h = refl
+argument_at_letter (function_type r s) accepts h = absurd h
+
+-- a term is long at a letter where that is the type which was found for it
+
+is_long_at_letter : (types : List SimpleType) (t : Term) (l : ℕ) → is_long types t (base_type l) ≡ is_at_base (neutral_type types t) (base_type l)
+is_long_at_letter types (free n s) l = refl
+is_long_at_letter types (bound i) l = refl
+is_long_at_letter types (constant c) l = refl
+is_long_at_letter types (application f a) l = refl
+is_long_at_letter types (abstraction s b) l = refl
+
+pub long_at_found : (types : List SimpleType) (t : Term) (l : ℕ) (s : SimpleType) → neutral_type types t ≡ Some s → s ≡ base_type l → is_long types t (base_type l) ≡ true
+long_at_found types t l s e same =
+    is_long_at_letter types t l ∙ ap (λ (o : Option SimpleType). is_at_base o (base_type l)) e ∙ ap (λ (s : SimpleType). same_type s (base_type l)) same
+    ∙ same_type_refl (base_type l)
+
+pub long_at_other : (types : List SimpleType) (t : Term) (l : ℕ) (s : SimpleType) → neutral_type types t ≡ Some s → s ≢ base_type l → is_long types t (base_type l) ≡ false
+long_at_other types t l s e other = is_long_at_letter types t l ∙ ap (λ (o : Option SimpleType). is_at_base o (base_type l)) e ∙ found_other s (base_type l) other

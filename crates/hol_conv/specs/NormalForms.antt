@@ -42,11 +42,15 @@ abbrev pub long_form : SimpleType → Term → Term
 long_form (base_type l) f = f
 long_form (function_type r s) f = abstraction s (long_form r (application (raise 1 0 f) (long_form s (bound 0))))
 
+-- the type of a head with one more argument; a letter asks for none
+abbrev pub type_after_argument : SimpleType → SimpleType
+type_after_argument (base_type l) = base_type l
+type_after_argument (function_type r s) = r
+
 -- the long form of a head, which has the type, with long arguments
 abbrev pub long_head : SimpleType → Term → List Term → Term
 long_head s f [] = long_form s f
-long_head (base_type l) f (a ∷ rest) = apply_all f (a ∷ rest)
-long_head (function_type r s) f (a ∷ rest) = long_head r (application f a) rest
+long_head s f (a ∷ rest) = long_head (type_after_argument s) (application f a) rest
 
 -- the type of an index; O where it has none
 abbrev pub type_of_index : List SimpleType → ℕ → SimpleType

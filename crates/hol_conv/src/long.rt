@@ -1,39 +1,48 @@
 //! Whether a term is long.
 
-ghost use Rattle.std.specs.Prelude.{◌≡◌, ◌↔◌, [], IfOk, IsTrue, option_map};
+ghost use Rattle.std.specs.Prelude.{◌≡◌, ◌↔◌, [], IfOk, IsTrue, OnOk, option_map};
 ghost use Rattle.hol_conv.specs.Conversion.{Long};
 ghost use Rattle.hol_conv.specs.LongTests.{is_long, neutral_type};
-ghost use Rattle.hol_terms.specs.Scopes.{types_of};
+ghost use Rattle.hol_terms.specs.Found.{found_type};
 ghost use Rattle.hol_terms.specs.Terms.{SimpleType, plain_term, plain_type};
 ghost use Rattle.hol_terms.specs.Typing.{Typed};
 
 use hol_terms::scopes::Scope;
 use hol_terms::terms::Tm;
 use hol_terms::types::Ty;
-use hol_terms::typing::type_of;
+use hol_terms::typing::{Found, type_of};
 use std::alloc::{AllocError, Global};
 
 /// The type of a neutral term, `None` for any other.
 #[cycle(long)]
-fn type_of_neutral(alloc: Global, scope: &Scope<'_>, t: &Tm) -> Result<Option<Ty>, AllocError>
-    ensures { IfOk result (λ ty. option_map plain_type ty ≡ neutral_type (types_of scope.now) (plain_term t.now)) }
+#[tactic(auto, using(crate::proofs::Longness::argument_right, crate::proofs::Longness::argument_wrong, crate::proofs::Longness::argument_at_letter))]
+fn type_of_neutral<'a>(
+    alloc: Global,
+    scope: &mut Scope<'a>,
+    t: &'a Tm,
+) -> Result<Option<Found<'a>>, AllocError>
+    ensures scope { OnOk result (scope.new ≡ scope.old) }
+    ensures answer { IfOk result (λ found. option_map found_type found ≡ neutral_type scope.old (plain_term t.now)) }
 {
     match t {
-        Tm::Free(_, ty) => Ok(Some(ty.copy(alloc)?)),
+        Tm::Free(_, ty) => Ok(Some(Found::Lent(ty))),
         Tm::Bound(index) => match scope.at(*index) {
             None => Ok(None),
-            Some(ty) => Ok(Some(ty.copy(alloc)?)),
+            Some(ty) => Ok(Some(Found::Lent(ty))),
         },
-        Tm::Con(con) => Ok(Some(con.type_of(alloc)?)),
+        Tm::Con(con) => Ok(Some(Found::Made(con.type_of(alloc)?))),
         Tm::App(function, argument) => match type_of_neutral(alloc, scope, function)? {
-            Some(Ty::Fun(result_type, wanted)) => {
-                if is_long_at(alloc, &*scope, argument, &wanted)? {
-                    Ok(Some(Box::into_inner(result_type)))
-                } else {
-                    Ok(None)
+            None => Ok(None),
+            Some(found) => match found.split() {
+                None => Ok(None),
+                Some(parts) => {
+                    if is_long_at(alloc, scope, argument, parts.argument.ty())? {
+                        Ok(Some(parts.result_type))
+                    } else {
+                        Ok(None)
+                    }
                 }
-            }
-            _ => Ok(None),
+            },
         },
         Tm::Lam(_, _) => Ok(None),
     }
@@ -41,15 +50,23 @@ fn type_of_neutral(alloc: Global, scope: &Scope<'_>, t: &Tm) -> Result<Option<Ty
 
 /// Whether the term is long of the type.
 #[cycle(long)]
-#[tactic(auto, using(crate::proofs::Longness::is_long_under, crate::proofs::Longness::is_long_at_other))]
-fn is_long_at(alloc: Global, scope: &Scope<'_>, t: &Tm, ty: &Ty) -> Result<bool, AllocError>
-    ensures { IfOk result (λ b. b ≡ is_long (types_of scope.now) (plain_term t.now) (plain_type ty.now)) }
+#[tactic(auto, using(crate::proofs::Longness::is_long_under, crate::proofs::Longness::is_long_at_other, crate::proofs::Longness::long_at_found, crate::proofs::Longness::long_at_other))]
+fn is_long_at<'a>(
+    alloc: Global,
+    scope: &mut Scope<'a>,
+    t: &'a Tm,
+    ty: &Ty,
+) -> Result<bool, AllocError>
+    ensures scope { OnOk result (scope.new ≡ scope.old) }
+    ensures answer { IfOk result (λ b. b ≡ is_long scope.old (plain_term t.now) (plain_type ty.now)) }
 {
     match (t, ty) {
         (Tm::Lam(bound_ty, body), Ty::Fun(result_type, argument)) => {
             if bound_ty.same(argument) {
-                let inner = Scope::Under(&*bound_ty, &*scope);
-                is_long_at(alloc, &inner, body, result_type)
+                scope.enter(bound_ty)?;
+                let is_long = is_long_at(alloc, scope, body, result_type)?;
+                scope.leave();
+                Ok(is_long)
             } else {
                 Ok(false)
             }
@@ -58,7 +75,7 @@ fn is_long_at(alloc: Global, scope: &Scope<'_>, t: &Tm, ty: &Ty) -> Result<bool,
         (_, Ty::Fun(_, _)) => Ok(false),
         (_, Ty::Base(_)) => match type_of_neutral(alloc, scope, t)? {
             None => Ok(false),
-            Some(found) => Ok(found.same(ty)),
+            Some(found) => Ok(found.ty().same(ty)),
         },
     }
 }
@@ -72,6 +89,9 @@ pub fn is_long_normal(alloc: Global, t: &Tm) -> Result<bool, AllocError>
 {
     match type_of(alloc, t)? {
         None => Ok(false),
-        Some(ty) => is_long_at(alloc, &Scope::Outside, t, &ty),
+        Some(ty) => {
+            let mut scope = Scope::new(alloc);
+            is_long_at(alloc, &mut scope, t, &ty)
+        }
     }
 }

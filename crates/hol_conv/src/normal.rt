@@ -1,47 +1,41 @@
 //! The long normal form of a term, and conversion.
 
-ghost use Rattle.std.specs.Prelude.{◌≡◌, ◌↔◌, ◌∷◌, [], IfOk, IsTrue};
-ghost use Rattle.hol_conv.specs.Arguments.{plain_arguments};
+ghost use Rattle.std.specs.Prelude.{◌≡◌, ◌↔◌, [], IfOk, IsTrue, OnOk};
 ghost use Rattle.hol_conv.specs.Conversion.{Conv, IsNormalOf};
-ghost use Rattle.hol_conv.specs.NormalForms.{apply_abstraction, apply_abstractions, apply_all, apply_long, long_form, long_head, normal_form, normal_with, put_long};
-ghost use Rattle.hol_terms.specs.Scopes.{types_of};
-ghost use Rattle.hol_terms.specs.Terms.{SimpleType, plain_term, plain_type};
-ghost use Rattle.hol_terms.specs.Typing.{Typed};
+ghost use Rattle.hol_conv.specs.NormalForms.{apply_abstraction, apply_abstractions, apply_all, apply_long, hereditary, long_head, normal_form, normal_with, put_long, put_long_index, type_of_index};
+ghost use Rattle.hol_terms.specs.Terms.{SimpleType, abstraction, bound, constant, free, plain_constant, plain_term, plain_type};
+ghost use Rattle.hol_terms.specs.Typing.{Typed, type_of_constant};
 
+use crate::arguments::{Arguments, applied};
+use crate::long_forms::head_applied;
 use hol_terms::indices::{raised, raised_index};
+use hol_terms::names::Name;
 use hol_terms::scopes::Scope;
-use hol_terms::terms::{Tm, copy, same};
+use hol_terms::terms::{Con, Tm, copy, same};
 use hol_terms::types::Ty;
 use std::alloc::{AllocError, Global};
 
-/// The arguments of a term, the first one first.
-#[derive(Drop)]
-pub enum Arguments {
-    End,
-    More(Tm, Box<Arguments>),
-}
-
-impl Arguments {
-    /// The arguments with one more before them.
-    fn after(self, alloc: Global, first: Tm) -> Result<Arguments, AllocError>
-        ensures { IfOk result (λ arguments. plain_arguments arguments ≡ plain_term first ∷ plain_arguments self) }
-    {
-        let rest = Box::new(alloc, self)?;
-        Ok(Arguments::More(first, rest))
-    }
-}
-
-/// The term applied to all the arguments.
-fn applied(alloc: Global, function: Tm, arguments: Arguments) -> Result<Tm, AllocError>
-    ensures { IfOk result (λ t. plain_term t ≡ apply_all (plain_term function) (plain_arguments arguments)) }
+/// An equal term applied to all the arguments.
+#[inline(never)]
+fn copy_applied(alloc: Global, t: &Tm, arguments: Arguments) -> Result<Tm, AllocError>
+    ensures { IfOk result (λ r. plain_term r ≡ apply_all (plain_term t.now) arguments) }
 {
-    match arguments {
-        Arguments::End => Ok(function),
-        Arguments::More(argument, rest) => {
-            let function = Tm::app(alloc, function, argument)?;
-            applied(alloc, function, Box::into_inner(rest))
-        }
-    }
+    let head = copy(alloc, t)?;
+    applied(alloc, head, arguments)
+}
+
+/// The abstraction over a variable of an equal type, applied to all the arguments.
+#[inline(never)]
+fn abstraction_with(
+    alloc: Global,
+    ty: &Ty,
+    body: Tm,
+    arguments: Arguments,
+) -> Result<Tm, AllocError>
+    ensures { IfOk result (λ r. plain_term r ≡ apply_all (abstraction (plain_type ty.now) (plain_term body)) arguments) }
+{
+    let head = Tm::lam_over(alloc, ty, body)?;
+    applied(alloc, head, arguments)
 }
 
 /// The long term `by`, which has the type, put for index `at` in a long term, which is applied to the arguments.
@@ -52,99 +46,87 @@ fn put_in_long(
     at: u64,
     by: &Tm,
     t: &Tm,
-    arguments: Arguments,
+    mut arguments: Arguments,
 ) -> Result<Tm, AllocError>
-    ensures { IfOk result (λ r. plain_term r ≡ put_long (apply_long (plain_type ty.now)) at (plain_term by.now) (plain_term t.now) (plain_arguments arguments)) }
+    ensures { IfOk result (λ r. plain_term r ≡ put_long (apply_long (plain_type ty.now)) at (plain_term by.now) (plain_term t.now) arguments) }
 {
     match t {
-        Tm::Free(_, _) => {
-            let head = copy(alloc, t)?;
-            applied(alloc, head, arguments)
-        }
-        Tm::Bound(index) => {
-            if *index == at {
-                let head = raised(alloc, at, 0, by)?;
-                long_applied(alloc, ty, head, arguments)
-            } else if *index < at {
-                applied(alloc, Tm::Bound(*index), arguments)
-            } else {
-                applied(alloc, Tm::Bound(*index - 1), arguments)
-            }
-        }
-        Tm::Con(_) => {
-            let head = copy(alloc, t)?;
-            applied(alloc, head, arguments)
-        }
+        Tm::Free(_, _) => copy_applied(alloc, t, arguments),
+        Tm::Bound(index) => put_for_index(alloc, ty, at, by, *index, arguments),
+        Tm::Con(_) => copy_applied(alloc, t, arguments),
         Tm::App(function, argument) => {
-            let argument = put_in_long(alloc, ty, at, by, argument, Arguments::End)?;
-            let arguments = arguments.after(alloc, argument)?;
+            let argument = put_in_long(alloc, ty, at, by, argument, Arguments::none(alloc))?;
+            arguments.put_first(argument)?;
             put_in_long(alloc, ty, at, by, function, arguments)
         }
         Tm::Lam(bound_ty, body) => {
-            let bound_ty = bound_ty.copy(alloc)?;
-            let body = put_in_long(alloc, ty, raised_index(at, 1)?, by, body, Arguments::End)?;
-            let head = Tm::lam(alloc, bound_ty, body)?;
-            applied(alloc, head, arguments)
+            let inner = raised_index(at, 1)?;
+            let body = put_in_long(alloc, ty, inner, by, body, Arguments::none(alloc))?;
+            abstraction_with(alloc, bound_ty, body, arguments)
         }
+    }
+}
+
+/// What stands for an index, which is applied to the arguments, where the long term `by`, which has the type, is put for index `at`.
+#[cycle(put)]
+#[inline(never)]
+fn put_for_index(
+    alloc: Global,
+    ty: &Ty,
+    at: u64,
+    by: &Tm,
+    index: u64,
+    arguments: Arguments,
+) -> Result<Tm, AllocError>
+    ensures { IfOk result (λ r. plain_term r ≡ put_long_index (apply_long (plain_type ty.now)) at (plain_term by.now) index arguments) }
+{
+    if index == at {
+        let head = raised(alloc, at, 0, by)?;
+        long_applied(alloc, ty, head, arguments)
+    } else if index < at {
+        applied(alloc, Tm::Bound(index), arguments)
+    } else {
+        applied(alloc, Tm::Bound(index - 1), arguments)
     }
 }
 
 /// A long term of the type, applied to long arguments.
 #[cycle(put)]
+#[inline(never)]
 fn long_applied(
     alloc: Global,
     ty: &Ty,
     function: Tm,
-    arguments: Arguments,
+    mut arguments: Arguments,
 ) -> Result<Tm, AllocError>
-    ensures { IfOk result (λ r. plain_term r ≡ apply_long (plain_type ty.now) (plain_term function) (plain_arguments arguments)) }
+    ensures { IfOk result (λ r. plain_term r ≡ apply_long (plain_type ty.now) (plain_term function) arguments) }
 {
-    match (ty, function, arguments) {
-        (Ty::Fun(result_type, argument_type), Tm::Lam(_, body), Arguments::More(argument, rest)) =>
-            {
-                let instance = put_in_long(
-                    alloc,
-                    argument_type,
-                    0,
-                    &argument,
-                    &body,
-                    Arguments::End,
-                )?;
-                long_applied(alloc, result_type, instance, Box::into_inner(rest))
+    match (ty, function) {
+        (Ty::Fun(result_type, argument_type), Tm::Lam(bound_ty, body)) => {
+            match arguments.take_first() {
+                None => Ok(Tm::Lam(bound_ty, body)),
+                Some(argument) => {
+                    let instance = instance_of_long(
+                        alloc,
+                        argument_type,
+                        argument,
+                        Box::into_inner(body),
+                    )?;
+                    long_applied(alloc, result_type, instance, arguments)
+                }
             }
-        (_, function, arguments) => applied(alloc, function, arguments),
+        }
+        (_, function) => applied(alloc, function, arguments),
     }
 }
 
-/// The long form of a head with some of its arguments.
-fn lengthened(alloc: Global, ty: &Ty, head: Tm) -> Result<Tm, AllocError>
-    ensures { IfOk result (λ t. plain_term t ≡ long_form (plain_type ty.now) (plain_term head)) }
+/// The body of a long abstraction with a long argument, which has the type, put for its variable.
+#[cycle(put)]
+#[inline(never)]
+fn instance_of_long(alloc: Global, ty: &Ty, argument: Tm, body: Tm) -> Result<Tm, AllocError>
+    ensures { IfOk result (λ r. plain_term r ≡ hereditary (plain_type ty.now) 0 (plain_term argument) (plain_term body)) }
 {
-    match ty {
-        Ty::Base(_) => Ok(head),
-        Ty::Fun(result_type, argument_type) => {
-            let head = raised(alloc, 1, 0, &head)?;
-            let argument = lengthened(alloc, argument_type, Tm::Bound(0))?;
-            let whole = Tm::app(alloc, head, argument)?;
-            let body = lengthened(alloc, result_type, whole)?;
-            let bound_ty = argument_type.copy(alloc)?;
-            Tm::lam(alloc, bound_ty, body)
-        }
-    }
-}
-
-/// The long form of a head, which has the type, with long arguments.
-fn head_applied(alloc: Global, ty: &Ty, head: Tm, arguments: Arguments) -> Result<Tm, AllocError>
-    ensures { IfOk result (λ t. plain_term t ≡ long_head (plain_type ty.now) (plain_term head) (plain_arguments arguments)) }
-{
-    match (ty, arguments) {
-        (_, Arguments::End) => lengthened(alloc, ty, head),
-        (Ty::Base(_), arguments) => applied(alloc, head, arguments),
-        (Ty::Fun(result_type, _), Arguments::More(argument, rest)) => {
-            let head = Tm::app(alloc, head, argument)?;
-            head_applied(alloc, result_type, head, Box::into_inner(rest))
-        }
-    }
+    put_in_long(alloc, ty, 0, &argument, &body, Arguments::none(alloc))
 }
 
 /// A long abstraction applied to a long argument.
@@ -152,59 +134,97 @@ fn abstraction_applied(alloc: Global, function: Tm, argument: Tm) -> Result<Tm, 
     ensures { IfOk result (λ t. plain_term t ≡ apply_abstraction (plain_term function) (plain_term argument)) }
 {
     match function {
-        Tm::Lam(ty, body) => put_in_long(alloc, &ty, 0, &argument, &body, Arguments::End),
+        Tm::Lam(ty, body) => instance_of_long(alloc, &ty, argument, Box::into_inner(body)),
         function => Tm::app(alloc, function, argument),
     }
 }
 
 /// A long abstraction applied to long arguments, one after another.
 fn abstractions_applied(alloc: Global, function: Tm, arguments: Arguments) -> Result<Tm, AllocError>
-    ensures { IfOk result (λ t. plain_term t ≡ apply_abstractions (plain_term function) (plain_arguments arguments)) }
+    ensures { IfOk result (λ t. plain_term t ≡ apply_abstractions (plain_term function) arguments) }
 {
-    match arguments {
-        Arguments::End => Ok(function),
-        Arguments::More(argument, rest) => {
-            let function = abstraction_applied(alloc, function, argument)?;
-            abstractions_applied(alloc, function, Box::into_inner(rest))
-        }
+    let mut function = function;
+    let mut arguments = arguments;
+    while let Some(argument) = arguments.take_first() {
+        function = abstraction_applied(alloc, function, argument)?;
+    }
+    Ok(function)
+}
+
+/// A free variable with long arguments.
+#[inline(never)]
+fn variable_applied(
+    alloc: Global,
+    name: &Name,
+    ty: &Ty,
+    arguments: Arguments,
+) -> Result<Tm, AllocError>
+    ensures { IfOk result (λ n. plain_term n ≡ long_head (plain_type ty.now) (free name.now (plain_type ty.now)) arguments) }
+{
+    let head = Tm::variable(alloc, name, ty)?;
+    head_applied(alloc, ty, head, arguments)
+}
+
+/// A bound index, which has a type of the scope, with long arguments.
+#[inline(never)]
+#[tactic(auto, using(crate::proofs::Lookups::lookup_some, crate::proofs::Lookups::lookup_none))]
+fn index_applied(
+    alloc: Global,
+    scope: &Scope<'_>,
+    index: u64,
+    arguments: Arguments,
+) -> Result<Tm, AllocError>
+    ensures { IfOk result (λ n. plain_term n ≡ long_head (type_of_index scope.now index) (bound index) arguments) }
+{
+    match scope.at(index) {
+        None => head_applied(alloc, &Ty::truth(), Tm::Bound(index), arguments),
+        Some(ty) => head_applied(alloc, ty, Tm::Bound(index), arguments),
     }
 }
 
+/// A constant with long arguments.
+#[inline(never)]
+fn constant_applied(alloc: Global, con: &Con, arguments: Arguments) -> Result<Tm, AllocError>
+    ensures { IfOk result (λ n. plain_term n ≡ long_head (type_of_constant (plain_constant con.now)) (constant (plain_constant con.now)) arguments) }
+{
+    let ty = con.type_of(alloc)?;
+    let head = Tm::constant(alloc, con)?;
+    head_applied(alloc, &ty, head, arguments)
+}
+
+/// The abstraction over a variable of the type with a long body, applied to long arguments.
+#[inline(never)]
+fn body_applied(alloc: Global, ty: &Ty, body: Tm, arguments: Arguments) -> Result<Tm, AllocError>
+    ensures { IfOk result (λ n. plain_term n ≡ apply_abstractions (abstraction (plain_type ty.now) (plain_term body)) arguments) }
+{
+    let function = Tm::lam_over(alloc, ty, body)?;
+    abstractions_applied(alloc, function, arguments)
+}
+
 /// The long normal form of a term that is applied to long arguments.
-#[tactic(auto, using(crate::proofs::Lookups::lookup_some, crate::proofs::Lookups::lookup_none))]
-fn normal_applied(
+fn normal_applied<'a>(
     alloc: Global,
-    scope: &Scope<'_>,
-    t: &Tm,
-    arguments: Arguments,
+    scope: &mut Scope<'a>,
+    t: &'a Tm,
+    mut arguments: Arguments,
 ) -> Result<Tm, AllocError>
-    ensures { IfOk result (λ n. plain_term n ≡ normal_with (types_of scope.now) (plain_term t.now) (plain_arguments arguments)) }
+    ensures scope { OnOk result (scope.new ≡ scope.old) }
+    ensures normal { IfOk result (λ n. plain_term n ≡ normal_with scope.old (plain_term t.now) arguments) }
 {
     match t {
-        Tm::Free(_, ty) => {
-            let head = copy(alloc, t)?;
-            head_applied(alloc, ty, head, arguments)
-        }
-        Tm::Bound(index) => match scope.at(*index) {
-            None => head_applied(alloc, &Ty::truth(), Tm::Bound(*index), arguments),
-            Some(ty) => head_applied(alloc, ty, Tm::Bound(*index), arguments),
-        },
-        Tm::Con(con) => {
-            let head = copy(alloc, t)?;
-            let ty = con.type_of(alloc)?;
-            head_applied(alloc, &ty, head, arguments)
-        }
+        Tm::Free(name, ty) => variable_applied(alloc, name, ty, arguments),
+        Tm::Bound(index) => index_applied(alloc, scope, *index, arguments),
+        Tm::Con(con) => constant_applied(alloc, con, arguments),
         Tm::App(function, argument) => {
-            let argument = normal_applied(alloc, scope, argument, Arguments::End)?;
-            let arguments = arguments.after(alloc, argument)?;
+            let argument = normal_applied(alloc, scope, argument, Arguments::none(alloc))?;
+            arguments.put_first(argument)?;
             normal_applied(alloc, scope, function, arguments)
         }
         Tm::Lam(ty, body) => {
-            let inner = Scope::Under(&*ty, &*scope);
-            let body = normal_applied(alloc, &inner, body, Arguments::End)?;
-            let ty = ty.copy(alloc)?;
-            let function = Tm::lam(alloc, ty, body)?;
-            abstractions_applied(alloc, function, arguments)
+            scope.enter(ty)?;
+            let body = normal_applied(alloc, scope, body, Arguments::none(alloc))?;
+            scope.leave();
+            body_applied(alloc, ty, body, arguments)
         }
     }
 }
@@ -216,7 +236,8 @@ pub fn normal(alloc: Global, t: &Tm) -> Result<Tm, AllocError>
     ensures normal { IfOk result (λ n. (s : SimpleType) → Typed [] (plain_term t.now) s → IsNormalOf [] s (plain_term n) (plain_term t.now)) }
     ensures computed { IfOk result (λ n. plain_term n ≡ normal_form [] (plain_term t.now)) }
 {
-    normal_applied(alloc, &Scope::Outside, t, Arguments::End)
+    let mut scope = Scope::new(alloc);
+    normal_applied(alloc, &mut scope, t, Arguments::none(alloc))
 }
 
 /// Whether two typed terms of one type are convertible.

@@ -2,6 +2,7 @@
 
 use crate::long::is_long_normal;
 use crate::normal::{convertible, normal};
+use hol_terms::indices::instantiate;
 use hol_terms::letters::Letter;
 use hol_terms::names::{Name, NameFault};
 use hol_terms::terms::{Con, Tm, copy, same};
@@ -123,12 +124,95 @@ fn negations(alloc: Global, count: u32) -> Result<Tm, AllocError> {
     Ok(t)
 }
 
+/// The depth to which each walk has to go.
+const DEEP: u32 = 5000;
+
+/// A copy, an instance and the long normal form of the term, which is closed and long already, are the term.
+fn is_kept_everywhere(alloc: Global, t: &Tm) -> Result<bool, AllocError> {
+    let copied = copy(alloc, t)?;
+    let instance = instantiate(alloc, &copied, &Tm::Bound(0))?;
+    let is_normal = matches!(normal_of(alloc, &instance)?, Some(n) if same(&n, t));
+    Ok(is_normal && is_long(alloc, t)? == Some(true))
+}
+
 #[test]
-fn deep_formula(rt: HostRuntime) -> Result<(), AllocError> {
+fn deep_to_the_right(rt: HostRuntime) -> Result<(), AllocError> {
     let alloc = rt.alloc();
-    let t = negations(alloc, 1000)?;
-    assert!(rt; matches!(normal_of(alloc, &t)?, Some(n) if same(&n, &t)));
-    assert!(rt; is_long(alloc, &t)? == Some(true));
+    let t = negations(alloc, DEEP)?;
+    assert!(rt; is_kept_everywhere(alloc, &t)?);
+    Ok(())
+}
+
+#[test]
+fn deep_to_the_left(rt: HostRuntime) -> Result<(), NameFault> {
+    let alloc = rt.alloc();
+    // one head with that many arguments
+    let mut ty = individual();
+    for _ in 0..DEEP {
+        ty = Ty::fun(alloc, ty, individual())?;
+    }
+    let mut t = variable(alloc, "f", ty)?;
+    for _ in 0..DEEP {
+        t = Tm::app(alloc, t, variable(alloc, "c", individual())?)?;
+    }
+    assert!(rt; is_kept_everywhere(alloc, &t)?);
+    Ok(())
+}
+
+#[test]
+fn deep_abstractions(rt: HostRuntime) -> Result<(), AllocError> {
+    let alloc = rt.alloc();
+    let mut t = Tm::Bound(u64::from(DEEP) - 1);
+    for _ in 0..DEEP {
+        t = Tm::lam(alloc, individual(), t)?;
+    }
+    assert!(rt; is_kept_everywhere(alloc, &t)?);
+    Ok(())
+}
+
+#[test]
+fn deep_conjunctions(rt: HostRuntime) -> Result<(), AllocError> {
+    let alloc = rt.alloc();
+    // a conjunction is two applications
+    let mut left = Tm::Con(Con::Truth);
+    let mut right = Tm::Con(Con::Truth);
+    for _ in 0..DEEP {
+        let first = Tm::app(alloc, Tm::Con(Con::And), left)?;
+        left = Tm::app(alloc, first, Tm::Con(Con::Truth))?;
+        let first = Tm::app(alloc, Tm::Con(Con::And), Tm::Con(Con::Truth))?;
+        right = Tm::app(alloc, first, right)?;
+    }
+    assert!(rt; is_kept_everywhere(alloc, &left)?);
+    assert!(rt; is_kept_everywhere(alloc, &right)?);
+    Ok(())
+}
+
+#[test]
+fn many_missing_arguments(rt: HostRuntime) -> Result<(), NameFault> {
+    let alloc = rt.alloc();
+    // the long form of a variable has as many abstractions as its type has arguments
+    let mut ty = individual();
+    for _ in 0..DEEP {
+        ty = Ty::fun(alloc, ty, individual())?;
+    }
+    let t = variable(alloc, "f", ty)?;
+    let long = normal_of(alloc, &t)?;
+    assert!(rt; matches!(&long, Some(n) if is_long(alloc, n)? == Some(true)));
+    assert!(rt; matches!(&long, Some(n) if are_convertible(alloc, n, &t)? == Some(true)));
+    Ok(())
+}
+
+#[test]
+fn many_redexes(rt: HostRuntime) -> Result<(), NameFault> {
+    let alloc = rt.alloc();
+    // [LAMBDA x. x] of [LAMBDA x. x] of .. c is c
+    let c = variable(alloc, "c", individual())?;
+    let mut t = copy(alloc, &c)?;
+    for _ in 0..DEEP {
+        let identity = Tm::lam(alloc, individual(), Tm::Bound(0))?;
+        t = Tm::app(alloc, identity, t)?;
+    }
+    assert!(rt; matches!(normal_of(alloc, &t)?, Some(n) if same(&n, &c)));
     Ok(())
 }
 

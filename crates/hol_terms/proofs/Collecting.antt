@@ -45,7 +45,7 @@ key_of_same v w e =
 same_variable-Decides : (v w : Variable) → Decides (same_variable v w) (v ≡ w)
 same_variable-Decides v w = (same_variable_only v w, λ e. subst (λ (w : Variable). same_variable v w ≡ true) e (same_variable_refl v))
 
-bytes_eq-key_of : (v w : Variable) → bytes_eq (key_of v) (key_of w) ≡ same_variable v w
+pub bytes_eq-key_of : (v w : Variable) → bytes_eq (key_of v) (key_of w) ≡ same_variable v w
 bytes_eq-key_of v w =
     same_from_decides (bytes_eq (key_of v) (key_of w)) (same_variable v w)
     (Decides-like (bytes_eq (key_of v) (key_of w)) (key_of_same v w) (ap key_of) (bytes_eq-Decides (key_of v) (key_of w))) (same_variable-Decides v w)

@@ -3,7 +3,10 @@ pub mod Collecting
 pub mod FreeLaws
 pub mod IndexLaws
 pub mod Naming
+pub mod Placing
 pub mod Replacing
 pub mod Same
+pub mod Sizes
+pub mod Truths
 pub mod TypingLaws
 pub mod Typings

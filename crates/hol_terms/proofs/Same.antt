@@ -1,8 +1,10 @@
 -- The tests of types, names and variables decide their equality.
-use Rattle.std.proofs.Common.{ℕ, List, [], ◌∷◌, Bool, true, false, cond, eqb, ◌&&◌, ◌≡◌, ◌≢◌, refl, ap, ap₂, sym, ◌∙◌, Some, None, arith}
+use Rattle.std.proofs.Common.{ℕ, List, [], ◌∷◌, Bool, true, false, cond, eqb, ◌&&◌, ◌≡◌, ◌≢◌, refl, ap, ap₂, sym, ◌∙◌, Option, Some, None, arith}
 use Rattle.std.proofs.lemmas.Bool.Decides.{nat_tests}
 use Rattle.hol_terms.specs.Terms.{SimpleType, base_type, function_type, Variable}
-use Rattle.hol_terms.specs.Computed.{same_type, same_name, same_variable, applied}
+use Rattle.hol_terms.specs.Computed.{same_type, same_name, same_variable, is_found, applied, abstracted}
+use Rattle.hol_terms.specs.Found.{found_type, split_found}
+use Rattle.hol_terms.specs.declared.typing.FoundFunction.{FoundFunction}
 
 pub same_type_refl : (a : SimpleType) → same_type a a ≡ true
 same_type_refl (base_type n) = grind (arith, nat_tests)
@@ -52,12 +54,54 @@ same_variable_parts n m s r e = let p = both_true (same_name n m) (same_type s r
 pub same_variable_only : (v w : Variable) → same_variable v w ≡ true → v ≡ w
 same_variable_only v w e = let p = same_variable_parts v.0 w.0 v.1 w.1 e in (λ i. (p.0 i, p.1 i))
 
-pub applied_same : (r s t : SimpleType) → s ≡ t → applied (Some (function_type r s)) (Some t) ≡ Some r
-applied_same r s t e = ap (λ (b : Bool). cond b (Some r) None) (ap (same_type s) (sym e) ∙ same_type_refl s)
+-- a type that was found
 
-pub applied_other : (r s t : SimpleType) → s ≢ t → applied (Some (function_type r s)) (Some t) ≡ None
-applied_other r s t h = by_test (same_type s t) refl
+-- an abstraction has a function type where it is over a variable of its argument and the body has its result
+pub found_abstracted : (o : Option SimpleType) (s r p : SimpleType) → s ≡ p → is_found (abstracted s o) (function_type r p) ≡ is_found o r
+found_abstracted None s r p e = refl
+found_abstracted (Some q) s r p e = right_true (same_type q r) (same_type s p) (ap (same_type s) (sym e) ∙ same_type_refl s)
   where
-    by_test : (b : Bool) → same_type s t ≡ b → cond (same_type s t) (Some r) None ≡ None
-    by_test true e = absurd (h (same_type_only s t e))
-    by_test false e = ap (λ (b : Bool). cond b (Some r) None) e
+    right_true : (x y : Bool) → y ≡ true → (x && y) ≡ x
+    right_true true y h = h
+    right_true false y h = refl
+
+pub found_abstracted_over_other : (o : Option SimpleType) (s r p : SimpleType) → s ≢ p → is_found (abstracted s o) (function_type r p) ≡ false
+found_abstracted_over_other None s r p other = refl
+found_abstracted_over_other (Some q) s r p other = by_test (same_type q r) (same_type s p) refl
+  where
+    by_test : (x y : Bool) → same_type s p ≡ y → (x && y) ≡ false
+    by_test x true e = absurd (other (same_type_only s p e))
+    by_test true false e = refl
+    by_test false false e = refl
+
+pub found_abstracted_at_letter : (o : Option SimpleType) (s : SimpleType) (l : ℕ) → is_found (abstracted s o) (base_type l) ≡ false
+found_abstracted_at_letter None s l = refl
+found_abstracted_at_letter (Some q) s l = refl
+
+pub found_here : (r s : SimpleType) → r ≡ s → is_found (Some r) s ≡ true
+found_here r s e = ap (λ s. same_type r s) (sym e) ∙ same_type_refl r
+
+pub found_other : (r s : SimpleType) → r ≢ s → is_found (Some r) s ≡ false
+found_other r s other = by_test (same_type r s) refl
+  where
+    by_test : (b : Bool) → same_type r s ≡ b → same_type r s ≡ false
+    by_test true e = absurd (other (same_type_only r s e))
+    by_test false e = e
+
+-- the type of an application by the parts of its function's type
+
+pub applied_right : (parts : FoundFunction) (t : SimpleType) (a : Option SimpleType) → split_found (Some parts) t
+    → is_found a (found_type parts.argument) ≡ true → applied (Some t) a ≡ Some (found_type parts.result_type)
+applied_right parts (base_type l) a h e = absurd h
+applied_right parts (function_type r s) a h e =
+    ap (λ (s : SimpleType). cond (is_found a s) (Some r) None) (sym h.1) ∙ ap (λ (b : Bool). cond b (Some r) None) e ∙ ap (λ (r : SimpleType). Some r) (sym h.0)
+
+pub applied_wrong : (parts : FoundFunction) (t : SimpleType) (a : Option SimpleType) → split_found (Some parts) t
+    → is_found a (found_type parts.argument) ≡ false → applied (Some t) a ≡ None
+applied_wrong parts (base_type l) a h e = absurd h
+applied_wrong parts (function_type r s) a h e =
+    ap (λ (s : SimpleType). cond (is_found a s) (Some r) None) (sym h.1) ∙ ap (λ (b : Bool). cond b (Some r) None) e
+
+pub applied_letter : (t : SimpleType) (a : Option SimpleType) → split_found None t → applied (Some t) a ≡ None
+applied_letter (base_type l) a h = refl
+applied_letter (function_type r s) a h = absurd h

@@ -2,21 +2,23 @@
 use Rattle.std.proofs.Common.{List, ◌∷◌, Bool, true, false, cond, ◌≡◌, refl, sym, ap, ap₂, ◌∙◌, Option, Some, None}
 use Rattle.hol_terms.specs.Terms.{SimpleType, base_type, function_type, Term, free, bound, constant, application, abstraction}
 use Rattle.hol_terms.specs.Typing.{Typed}
-use Rattle.hol_terms.specs.Computed.{type_in, applied, abstracted, same_type}
+use Rattle.hol_terms.specs.Computed.{type_in, is_found, applied, abstracted}
 use Rattle.hol_terms.proofs.Same.{same_type_only, same_type_refl}
+
+found-same : (o : Option SimpleType) (s : SimpleType) → is_found o s ≡ true → o ≡ Some s
+found-same None s e = cc
+found-same (Some r) s e = ap (λ (s : SimpleType). Some s) (same_type_only r s e)
 
 applied-parts : (f a : Option SimpleType) (t : SimpleType) → applied f a ≡ Some t → (s : SimpleType) × (f ≡ Some (function_type t s)) × (a ≡ Some s)
 applied-parts None a t e = cc
 applied-parts (Some (base_type l)) a t e = cc
-applied-parts (Some (function_type r s)) None t e = cc
-applied-parts (Some (function_type r s)) (Some q) t e = go (same_type s q) refl
+applied-parts (Some (function_type r s)) a t e = go (is_found a s) refl
   where
-    go : (b : Bool) → same_type s q ≡ b → (p : SimpleType) × (Some (function_type r s) ≡ Some (function_type t p)) × (Some q ≡ Some p)
+    go : (b : Bool) → is_found a s ≡ b → (p : SimpleType) × (Some (function_type r s) ≡ Some (function_type t p)) × (a ≡ Some p)
     go true h =
-        let same : s ≡ q = same_type_only s q h in
         let got : Some r ≡ Some t = ap (λ (b : Bool). cond b (Some r) None) (sym h) ∙ e in
         let one : r ≡ t = cc in
-        (s, ap₂ (λ (r s : SimpleType). Some (function_type r s)) one refl, ap (λ (s : SimpleType). Some s) (sym same))
+        (s, ap₂ (λ (r s : SimpleType). Some (function_type r s)) one refl, found-same a s h)
     go false h = let got : None ≡ Some t = ap (λ (b : Bool). cond b (Some r) None) (sym h) ∙ e in cc
 
 abstracted-parts : (s : SimpleType) (b : Option SimpleType) (t : SimpleType) → abstracted s b ≡ Some t → (r : SimpleType) × (b ≡ Some r) × (function_type r s ≡ t)

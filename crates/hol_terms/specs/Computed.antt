@@ -19,12 +19,16 @@ same_name (c ∷ cs) (d ∷ ds) = eqb c d && same_name cs ds
 abbrev pub same_variable : Variable → Variable → Bool
 same_variable v w = same_name v.0 w.0 && same_type v.1 w.1
 
+-- a type was found, and it is this one
+abbrev pub is_found : Option SimpleType → SimpleType → Bool
+is_found None s = false
+is_found (Some r) s = same_type r s
+
 -- the type of an application from those of its parts
 abbrev pub applied : Option SimpleType → Option SimpleType → Option SimpleType
 applied None a = None
 applied (Some (base_type l)) a = None
-applied (Some (function_type r s)) None = None
-applied (Some (function_type r s)) (Some p) = cond (same_type s p) (Some r) None
+applied (Some (function_type r s)) a = cond (is_found a s) (Some r) None
 
 -- the type of an abstraction from that of its body
 abbrev pub abstracted : SimpleType → Option SimpleType → Option SimpleType

@@ -4,6 +4,7 @@ use Rattle.hol_terms.specs.Terms.{SimpleType, Term}
 use Rattle.hol_terms.specs.Typing.{Typed}
 use Rattle.hol_terms.specs.Indices.{raise, put, instance_of, HasIndex, IsClosedBelow, IsClosed}
 use Rattle.hol_terms.specs.FreeVariables.{IsFree, IsBodyOver, free_variables_of, replace_free}
+use Rattle.hol_terms.specs.Truth.{Holds, IsAtom}
 
 -- types
 
@@ -98,3 +99,13 @@ ReplaceOfNotFree = (n : List ℕ) (s : SimpleType) (u t : Term) → (IsFree n s 
 -- the instance of the body over a variable is the term with the other one put for the variable
 abbrev pub InstanceIsReplaced : Type 0
 InstanceIsReplaced = (n : List ℕ) (s : SimpleType) (u t body : Term) → IsClosed t → IsBodyOver n s t body → instance_of body u ≡ replace_free n s u t
+
+-- truth by assignments
+
+-- each formula holds or doesn't
+abbrev pub HoldsOrNot : Type 0
+HoldsOrNot = (true_atoms : List Term) (formula : Term) → Holds true_atoms formula ⊎ (Holds true_atoms formula → ⊥)
+
+-- an atom holds exactly where it is in the list
+abbrev pub AtomHoldsInList : Type 0
+AtomHoldsInList = (true_atoms : List Term) (formula : Term) → IsAtom formula → (Holds true_atoms formula ↔ Contains true_atoms formula)

@@ -1,11 +1,13 @@
 pub mod Codes
 pub mod Collected
 pub mod Computed
+pub mod Found
 pub mod FreeVariables
 pub mod Indices
 pub mod Laws
 pub mod Lists
 pub mod Names
+pub mod Places
 pub mod Scopes
 pub mod Splits
 pub mod Terms

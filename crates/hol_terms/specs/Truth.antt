@@ -14,6 +14,16 @@ Holds true_atoms (constant truth) = Unit {0}
 Holds true_atoms (constant falsehood) = ⊥
 Holds true_atoms atom = Contains true_atoms atom
 
+-- the formula is none of NOT a, a AND b, a OR b, a IMPLIES b, TRUTH and FALSEHOOD
+abbrev pub IsAtom : Term → Type 0
+IsAtom (application (constant negation) a) = ⊥
+IsAtom (application (application (constant conjunction) a) b) = ⊥
+IsAtom (application (application (constant disjunction) a) b) = ⊥
+IsAtom (application (application (constant implication) a) b) = ⊥
+IsAtom (constant truth) = ⊥
+IsAtom (constant falsehood) = ⊥
+IsAtom atom = Unit {0}
+
 -- the atoms of a formula, each occurrence, from left to right
 abbrev pub atoms_of : Term → List Term
 atoms_of (application (constant negation) a) = atoms_of a

@@ -6,7 +6,7 @@ ghost use Rattle.hol_terms.specs.Indices.{IsClosed, instance_of, put, raise};
 ghost use Rattle.hol_terms.specs.Terms.{plain_term, plain_type};
 
 use crate::names::Name;
-use crate::terms::{Tm, copy};
+use crate::terms::Tm;
 use crate::types::Ty;
 use std::alloc::{AllocError, Global};
 
@@ -25,7 +25,7 @@ pub fn raised(alloc: Global, by: u64, from: u64, t: &Tm) -> Result<Tm, AllocErro
     ensures { IfOk result (λ r. plain_term r ≡ raise by from (plain_term t.now)) }
 {
     match t {
-        Tm::Free(_, _) => copy(alloc, t),
+        Tm::Free(name, ty) => Tm::variable(alloc, name, ty),
         Tm::Bound(index) => {
             if *index < from {
                 Ok(Tm::Bound(*index))
@@ -33,16 +33,15 @@ pub fn raised(alloc: Global, by: u64, from: u64, t: &Tm) -> Result<Tm, AllocErro
                 Ok(Tm::Bound(raised_index(*index, by)?))
             }
         }
-        Tm::Con(_) => copy(alloc, t),
+        Tm::Con(con) => Tm::constant(alloc, con),
         Tm::App(function, argument) => {
             let function = raised(alloc, by, from, function)?;
             let argument = raised(alloc, by, from, argument)?;
             Tm::app(alloc, function, argument)
         }
         Tm::Lam(ty, body) => {
-            let ty = ty.copy(alloc)?;
             let body = raised(alloc, by, raised_index(from, 1)?, body)?;
-            Tm::lam(alloc, ty, body)
+            Tm::lam_over(alloc, ty, body)
         }
     }
 }
@@ -52,7 +51,7 @@ pub fn replaced(alloc: Global, at: u64, by: &Tm, t: &Tm) -> Result<Tm, AllocErro
     ensures { IfOk result (λ r. plain_term r ≡ put at (plain_term by.now) (plain_term t.now)) }
 {
     match t {
-        Tm::Free(_, _) => copy(alloc, t),
+        Tm::Free(name, ty) => Tm::variable(alloc, name, ty),
         Tm::Bound(index) => {
             if *index == at {
                 raised(alloc, at, 0, by)
@@ -62,16 +61,15 @@ pub fn replaced(alloc: Global, at: u64, by: &Tm, t: &Tm) -> Result<Tm, AllocErro
                 Ok(Tm::Bound(*index - 1))
             }
         }
-        Tm::Con(_) => copy(alloc, t),
+        Tm::Con(con) => Tm::constant(alloc, con),
         Tm::App(function, argument) => {
             let function = replaced(alloc, at, by, function)?;
             let argument = replaced(alloc, at, by, argument)?;
             Tm::app(alloc, function, argument)
         }
         Tm::Lam(ty, body) => {
-            let ty = ty.copy(alloc)?;
             let body = replaced(alloc, raised_index(at, 1)?, by, body)?;
-            Tm::lam(alloc, ty, body)
+            Tm::lam_over(alloc, ty, body)
         }
     }
 }
@@ -93,20 +91,19 @@ fn indexed(alloc: Global, name: &Name, ty: &Ty, at: u64, t: &Tm) -> Result<Tm, A
             if name.same(other_name) && ty.same(other_ty) {
                 Ok(Tm::Bound(at))
             } else {
-                copy(alloc, t)
+                Tm::variable(alloc, other_name, other_ty)
             }
         }
-        Tm::Bound(_) => copy(alloc, t),
-        Tm::Con(_) => copy(alloc, t),
+        Tm::Bound(index) => Ok(Tm::Bound(*index)),
+        Tm::Con(con) => Tm::constant(alloc, con),
         Tm::App(function, argument) => {
             let function = indexed(alloc, name, ty, at, function)?;
             let argument = indexed(alloc, name, ty, at, argument)?;
             Tm::app(alloc, function, argument)
         }
         Tm::Lam(bound_ty, body) => {
-            let bound_ty = bound_ty.copy(alloc)?;
             let body = indexed(alloc, name, ty, raised_index(at, 1)?, body)?;
-            Tm::lam(alloc, bound_ty, body)
+            Tm::lam_over(alloc, bound_ty, body)
         }
     }
 }

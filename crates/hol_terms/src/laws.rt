@@ -1,6 +1,6 @@
 //! Laws of terms. The functions do nothing: what each ensures is a theorem, which the layers above may cite.
 
-ghost use Rattle.hol_terms.specs.Laws.{BodyKeepsType, FreeOfPut, HasOneBody, HasOneType, InstanceIsReplaced, IsClosedByType, ListsFreeVariables, PutKeepsType, PutOfClosed, PutOfRaised, PutsCommute, RaiseCommutesAbove, RaiseCommutesBelow, RaiseKeepsType, RaiseOfClosed, RaisesCommute, RaisesJoin, ReplaceKeepsType, ReplaceOfNotFree, ReplacesCommute};
+ghost use Rattle.hol_terms.specs.Laws.{AtomHoldsInList, BodyKeepsType, FreeOfPut, HasOneBody, HasOneType, HoldsOrNot, InstanceIsReplaced, IsClosedByType, ListsFreeVariables, PutKeepsType, PutOfClosed, PutOfRaised, PutsCommute, RaiseCommutesAbove, RaiseCommutesBelow, RaiseKeepsType, RaiseOfClosed, RaisesCommute, RaisesJoin, ReplaceKeepsType, ReplaceOfNotFree, ReplacesCommute};
 
 /// A term has at most one type and no loose index without a type, and its type stays under raised and replaced indices and in
 /// the body over a variable.
@@ -37,4 +37,10 @@ pub fn replacement()
     ensures commute { ReplacesCommute }
     ensures not_free { ReplaceOfNotFree }
     ensures instance { InstanceIsReplaced }
+{}
+
+/// Under each assignment a formula holds or doesn't, and an atom holds exactly where it is in the list.
+pub fn truth()
+    ensures decided { HoldsOrNot }
+    ensures atom { AtomHoldsInList }
 {}

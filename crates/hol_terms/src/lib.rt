@@ -12,4 +12,5 @@ pub mod terms;
 mod tests;
 pub mod types;
 pub mod typing;
+pub mod variable_sets;
 pub mod variables;

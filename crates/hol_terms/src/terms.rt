@@ -1,7 +1,7 @@
 //! Terms.
 
 ghost use Rattle.std.specs.Prelude.{◌≡◌, ◌↔◌, IfOk, IsTrue};
-ghost use Rattle.hol_terms.specs.Terms.{abstraction, application, plain_constant, plain_term, plain_type};
+ghost use Rattle.hol_terms.specs.Terms.{abstraction, application, constant, free, plain_constant, plain_term, plain_type};
 
 use crate::names::Name;
 use crate::types::Ty;
@@ -68,6 +68,7 @@ pub enum Tm {
 
 impl Tm {
     /// The function applied to the argument.
+    #[inline(never)]
     pub fn app(alloc: Global, function: Tm, argument: Tm) -> Result<Tm, AllocError>
         ensures { IfOk result (λ t. plain_term t ≡ application (plain_term function) (plain_term argument)) }
     {
@@ -77,11 +78,40 @@ impl Tm {
     }
 
     /// The abstraction with this body, over a variable of this type.
+    #[inline(never)]
     pub fn lam(alloc: Global, ty: Ty, body: Tm) -> Result<Tm, AllocError>
         ensures { IfOk result (λ t. plain_term t ≡ abstraction (plain_type ty) (plain_term body)) }
     {
         let body = Box::new(alloc, body)?;
         Ok(Tm::Lam(ty, body))
+    }
+
+    /// The abstraction with this body, over a variable of an equal type.
+    // Called by walks of terms, whose frames stay small.
+    #[inline(never)]
+    pub fn lam_over(alloc: Global, ty: &Ty, body: Tm) -> Result<Tm, AllocError>
+        ensures { IfOk result (λ t. plain_term t ≡ abstraction (plain_type ty.now) (plain_term body)) }
+    {
+        let ty = ty.copy(alloc)?;
+        Tm::lam(alloc, ty, body)
+    }
+
+    /// The free variable of an equal name and an equal type.
+    #[inline(never)]
+    pub fn variable(alloc: Global, name: &Name, ty: &Ty) -> Result<Tm, AllocError>
+        ensures { IfOk result (λ t. plain_term t ≡ free name.now (plain_type ty.now)) }
+    {
+        let name = name.copy(alloc)?;
+        let ty = ty.copy(alloc)?;
+        Ok(Tm::Free(name, ty))
+    }
+
+    /// An equal constant as a term.
+    #[inline(never)]
+    pub fn constant(alloc: Global, con: &Con) -> Result<Tm, AllocError>
+        ensures { IfOk result (λ t. plain_term t ≡ constant (plain_constant con.now)) }
+    {
+        Ok(Tm::Con(con.copy(alloc)?))
     }
 }
 
@@ -104,22 +134,17 @@ pub fn copy(alloc: Global, t: &Tm) -> Result<Tm, AllocError>
     ensures { IfOk result (λ c. plain_term c ≡ plain_term t.now) }
 {
     match t {
-        Tm::Free(name, ty) => {
-            let name = name.copy(alloc)?;
-            let ty = ty.copy(alloc)?;
-            Ok(Tm::Free(name, ty))
-        }
+        Tm::Free(name, ty) => Tm::variable(alloc, name, ty),
         Tm::Bound(index) => Ok(Tm::Bound(*index)),
-        Tm::Con(con) => Ok(Tm::Con(con.copy(alloc)?)),
+        Tm::Con(con) => Tm::constant(alloc, con),
         Tm::App(function, argument) => {
             let function = copy(alloc, function)?;
             let argument = copy(alloc, argument)?;
             Tm::app(alloc, function, argument)
         }
         Tm::Lam(ty, body) => {
-            let ty = ty.copy(alloc)?;
             let body = copy(alloc, body)?;
-            Tm::lam(alloc, ty, body)
+            Tm::lam_over(alloc, ty, body)
         }
     }
 }

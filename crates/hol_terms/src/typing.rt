@@ -1,8 +1,8 @@
 //! The type of a term.
 
-ghost use Rattle.std.specs.Prelude.{◌≡◌, [], IfOk, MatchOption, option_map};
-ghost use Rattle.hol_terms.specs.Computed.{applied, type_in};
-ghost use Rattle.hol_terms.specs.Scopes.{types_of};
+ghost use Rattle.std.specs.Prelude.{◌≡◌, [], IfOk, MatchOption, OnOk, option_map};
+ghost use Rattle.hol_terms.specs.Computed.{abstracted, is_found, type_in};
+ghost use Rattle.hol_terms.specs.Found.{found_type, split_found};
 ghost use Rattle.hol_terms.specs.Terms.{SimpleType, plain_constant, plain_term, plain_type};
 ghost use Rattle.hol_terms.specs.Typing.{Typed, type_of_constant};
 
@@ -31,46 +31,145 @@ impl Con {
     }
 }
 
-/// The type of an application whose parts have these types.
-#[tactic(auto, using(crate::proofs::Same::applied_same, crate::proofs::Same::applied_other))]
-fn type_applied(function: Option<Ty>, argument: Option<Ty>) -> Option<Ty>
-    ensures { option_map plain_type result ≡ applied (option_map plain_type function) (option_map plain_type argument) }
+/// A type that stands in the term, or one that was made.
+#[derive(Drop)]
+pub enum Found<'a> {
+    Lent(&'a Ty),
+    Made(Ty),
+}
+
+impl<'a> Found<'a> {
+    /// The type.
+    pub fn ty(&self) -> &Ty
+        ensures { plain_type result.now ≡ found_type self.now }
+    {
+        match self {
+            Found::Lent(ty) => ty,
+            Found::Made(ty) => ty,
+        }
+    }
+
+    /// The type, copied where it was lent.
+    pub fn into_type(self, alloc: Global) -> Result<Ty, AllocError>
+        ensures { IfOk result (λ ty. plain_type ty ≡ found_type self.entry) }
+    {
+        match self {
+            Found::Lent(ty) => ty.copy(alloc),
+            Found::Made(ty) => Ok(ty),
+        }
+    }
+
+    /// The type's result and argument, where it is a function type.
+    pub fn split(self) -> Option<FoundFunction<'a>>
+        ensures { split_found result (found_type self.entry) }
+    {
+        match self {
+            Found::Lent(Ty::Fun(result_type, argument)) => Some(FoundFunction {
+                result_type: Found::Lent(result_type),
+                argument: Found::Lent(argument),
+            }),
+            Found::Made(Ty::Fun(result_type, argument)) => Some(FoundFunction {
+                result_type: Found::Made(Box::into_inner(result_type)),
+                argument: Found::Made(Box::into_inner(argument)),
+            }),
+            _ => None,
+        }
+    }
+}
+
+/// A function type's result and argument.
+#[derive(Drop)]
+pub struct FoundFunction<'a> {
+    pub result_type: Found<'a>,
+    pub argument: Found<'a>,
+}
+
+/// The type of an abstraction over a variable of the type, whose body has that type.
+fn type_abstracted<'a>(
+    alloc: Global,
+    ty: &Ty,
+    body: Option<Found<'a>>,
+) -> Result<Option<Found<'a>>, AllocError>
+    ensures { IfOk result (λ found. option_map found_type found ≡ abstracted (plain_type ty.now) (option_map found_type body.entry)) }
 {
-    match (function, argument) {
-        (Some(Ty::Fun(result_type, wanted)), Some(argument)) => {
-            if wanted.same(&argument) {
-                Some(Box::into_inner(result_type))
+    match body {
+        None => Ok(None),
+        Some(result_type) => {
+            let result_type = result_type.into_type(alloc)?;
+            let argument = ty.copy(alloc)?;
+            Ok(Some(Found::Made(Ty::fun(alloc, result_type, argument)?)))
+        }
+    }
+}
+
+/// Whether the term has the type, where its loose indices have the types of the scope.
+#[cycle(typing)]
+#[tactic(auto, using(crate::proofs::Same::found_abstracted, crate::proofs::Same::found_abstracted_over_other, crate::proofs::Same::found_abstracted_at_letter, crate::proofs::Same::found_here, crate::proofs::Same::found_other))]
+fn has_type<'a>(
+    alloc: Global,
+    scope: &mut Scope<'a>,
+    t: &'a Tm,
+    wanted: &Ty,
+) -> Result<bool, AllocError>
+    ensures scope { OnOk result (scope.new ≡ scope.old) }
+    ensures answer { IfOk result (λ b. b ≡ is_found (type_in scope.old (plain_term t.now)) (plain_type wanted.now)) }
+{
+    match (t, wanted) {
+        (Tm::Lam(ty, body), Ty::Fun(result_type, argument)) => {
+            if ty.same(argument) {
+                scope.enter(ty)?;
+                let is_typed = has_type(alloc, scope, body, result_type)?;
+                scope.leave();
+                Ok(is_typed)
             } else {
-                None
+                Ok(false)
             }
         }
-        _ => None,
+        (Tm::Lam(_, _), Ty::Base(_)) => Ok(false),
+        _ => match type_found(alloc, scope, t)? {
+            None => Ok(false),
+            Some(found) => Ok(found.ty().same(wanted)),
+        },
     }
 }
 
 /// The type of a term whose loose indices have the types of the scope.
-pub fn type_in_scope(alloc: Global, scope: &Scope<'_>, t: &Tm) -> Result<Option<Ty>, AllocError>
-    ensures { IfOk result (λ ty. option_map plain_type ty ≡ type_in (types_of scope.now) (plain_term t.now)) }
+#[cycle(typing)]
+#[tactic(auto, using(crate::proofs::Same::applied_right, crate::proofs::Same::applied_wrong, crate::proofs::Same::applied_letter))]
+fn type_found<'a>(
+    alloc: Global,
+    scope: &mut Scope<'a>,
+    t: &'a Tm,
+) -> Result<Option<Found<'a>>, AllocError>
+    ensures scope { OnOk result (scope.new ≡ scope.old) }
+    ensures answer { IfOk result (λ found. option_map found_type found ≡ type_in scope.old (plain_term t.now)) }
 {
     match t {
-        Tm::Free(_, ty) => Ok(Some(ty.copy(alloc)?)),
+        Tm::Free(_, ty) => Ok(Some(Found::Lent(ty))),
         Tm::Bound(index) => match scope.at(*index) {
             None => Ok(None),
-            Some(ty) => Ok(Some(ty.copy(alloc)?)),
+            Some(ty) => Ok(Some(Found::Lent(ty))),
         },
-        Tm::Con(con) => Ok(Some(con.type_of(alloc)?)),
-        Tm::App(function, argument) => {
-            let function = type_in_scope(alloc, scope, function)?;
-            let argument = type_in_scope(alloc, scope, argument)?;
-            Ok(type_applied(function, argument))
-        }
-        Tm::Lam(ty, body) => match type_in_scope(alloc, &Scope::Under(ty, scope), body)? {
+        Tm::Con(con) => Ok(Some(Found::Made(con.type_of(alloc)?))),
+        Tm::App(function, argument) => match type_found(alloc, scope, function)? {
             None => Ok(None),
-            Some(result_type) => {
-                let argument = ty.copy(alloc)?;
-                Ok(Some(Ty::fun(alloc, result_type, argument)?))
-            }
+            Some(found) => match found.split() {
+                None => Ok(None),
+                Some(parts) => {
+                    if has_type(alloc, scope, argument, parts.argument.ty())? {
+                        Ok(Some(parts.result_type))
+                    } else {
+                        Ok(None)
+                    }
+                }
+            },
         },
+        Tm::Lam(ty, body) => {
+            scope.enter(ty)?;
+            let found = type_found(alloc, scope, body)?;
+            scope.leave();
+            type_abstracted(alloc, ty, found)
+        }
     }
 }
 
@@ -79,5 +178,9 @@ pub fn type_in_scope(alloc: Global, scope: &Scope<'_>, t: &Tm) -> Result<Option<
 pub fn type_of(alloc: Global, t: &Tm) -> Result<Option<Ty>, AllocError>
     ensures { IfOk result (λ ty. MatchOption ty ((s : SimpleType) → Typed [] (plain_term t.now) s → ⊥) (λ s. Typed [] (plain_term t.now) (plain_type s))) }
 {
-    type_in_scope(alloc, &Scope::Outside, t)
+    let mut scope = Scope::new(alloc);
+    match type_found(alloc, &mut scope, t)? {
+        None => Ok(None),
+        Some(found) => Ok(Some(found.into_type(alloc)?)),
+    }
 }

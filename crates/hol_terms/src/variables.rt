@@ -57,7 +57,7 @@ fn write_characters(key: &mut String, characters: &[char]) -> Result<(), AllocEr
 
 /// The text by which a variable is found: its type, and then its name.
 #[tactic(auto, using(crate::proofs::Collecting::encoded_both))]
-fn key_of_variable(alloc: Global, name: &Name, ty: &Ty) -> Result<String, AllocError>
+pub(crate) fn key_of_variable(alloc: Global, name: &Name, ty: &Ty) -> Result<String, AllocError>
     ensures { IfOk result (λ key. string_bytes key ≡ key_of (name.now, plain_type ty.now)) }
 {
     let mut key = String::new(alloc);

@@ -1,3 +1,9 @@
-pub mod Mated
-pub mod ProofForms
-pub mod TreeForms
+pub mod Counts
+pub mod Equations
+pub mod Judged
+pub mod Kept
+pub mod Lists
+pub mod Steps
+pub mod Table
+pub mod Whole
+pub mod Written

@@ -31,11 +31,6 @@ abbrev pub pair_forms : List (ℕ × ℕ) → Forms
 pair_forms [] = no_forms
 pair_forms (p ∷ ps) = more_forms (pair_form (number_form p.0) (number_form p.1)) (pair_forms ps)
 
--- a tree without a selection and without an expansion
-abbrev pub IsUnquantified : ExpansionTree → Type 0
-IsUnquantified leaf_node = Unit {0}
-IsUnquantified constant_node = Unit {0}
-IsUnquantified (negation_node t) = IsUnquantified t
-IsUnquantified (connective_node op t u) = IsUnquantified t × IsUnquantified u
-IsUnquantified (selection_node name t) = ⊥
-IsUnquantified (expansion_node bs) = ⊥
+-- (p1 p2 ..)
+abbrev pub mating_form : List (ℕ × ℕ) → Form
+mating_form ps = list_form (pair_forms ps)

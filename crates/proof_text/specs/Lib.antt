@@ -1,4 +1,5 @@
-pub mod Computed
 pub mod Forms
+pub mod Laws
+pub mod Reading
 pub mod Texts
 pub mod Views

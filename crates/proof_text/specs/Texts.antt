@@ -1,12 +1,13 @@
 -- Proof texts: which bytes are the text of which formula, tree and mating.
-use Rattle.std.specs.Prelude.{◌≡◌, ℕ, List, codes}
-use Rattle.hol_terms.specs.Terms.{Constant, negation, conjunction, disjunction, implication, truth, falsehood, forall, exists, Term, free, bound, constant, application, abstraction, plain_term, truth_type}
-use Rattle.hol_terms.specs.Typing.{IsFormula}
+use Rattle.std.specs.Prelude.{ℕ, List, [], codes}
+use Rattle.hol_terms.specs.Names.{IsName}
+use Rattle.hol_terms.specs.Terms.{SimpleType, Term, plain_term}
+use Rattle.hol_terms.specs.Typing.{IsFormula, Typed}
 use Rattle.core_text.specs.CoreForms.{HasNames, term_form}
-use Rattle.core_text.specs.Forms.{Form, word_form, number_form, list_form, Forms, no_forms, more_forms, IsTextOf}
-use Rattle.expansion_tree.specs.Trees.{ExpansionTree, plain_tree}
+use Rattle.core_text.specs.Forms.{Form, word_form, number_form, list_form, no_forms, more_forms, IsTextOf}
+use Rattle.expansion_tree.specs.Trees.{ExpansionTree, leaf_node, constant_node, negation_node, connective_node, selection_node, expansion_node, ExpansionBranches, no_branch, branch, plain_tree}
 use Rattle.proof_text.specs.declared.texts.ProofText.{ProofText}
-use Rattle.proof_text.specs.Forms.{tree_form, pair_forms, IsUnquantified}
+use Rattle.proof_text.specs.Forms.{tree_form, mating_form}
 
 -- a formula, an expansion tree and a mating
 pub record Proof : Type 0 where
@@ -18,43 +19,53 @@ abbrev pub plain_proof : ProofText → Proof
 plain_proof p = record { formula = plain_term p.formula; tree = plain_tree p.tree; mating = p.mating }
 
 -- (PROOF 1 formula tree (pair pair ..))
-abbrev pub outer_form : Form → Form → Forms → Form
-outer_form formula tree pairs =
-    list_form (more_forms (word_form (codes "PROOF")) (more_forms (number_form 1) (more_forms formula (more_forms tree (more_forms (list_form pairs) no_forms)))))
+abbrev pub outer_form : Form → Form → Form → Form
+outer_form formula tree mating =
+    list_form (more_forms (word_form (codes "PROOF")) (more_forms (number_form 1) (more_forms formula (more_forms tree (more_forms mating no_forms)))))
 
 abbrev pub proof_form : Proof → Form
-proof_form p = outer_form (term_form p.formula) (tree_form p.tree) (pair_forms p.mating)
+proof_form p = outer_form (term_form p.formula) (tree_form p.tree) (mating_form p.mating)
 
--- no quantifier
-abbrev pub IsConnective : Constant → Type 0
-IsConnective negation = Unit {0}
-IsConnective conjunction = Unit {0}
-IsConnective disjunction = Unit {0}
-IsConnective implication = Unit {0}
-IsConnective truth = Unit {0}
-IsConnective falsehood = Unit {0}
-IsConnective (forall s) = ⊥
-IsConnective (exists s) = ⊥
+abbrev mutual
+  -- each selected name is a name, and so are the names of the terms
+  pub TreeHasNames : ExpansionTree → Type 0
+  TreeHasNames leaf_node = Unit {0}
+  TreeHasNames constant_node = Unit {0}
+  TreeHasNames (negation_node t) = TreeHasNames t
+  TreeHasNames (connective_node op t u) = TreeHasNames t × TreeHasNames u
+  TreeHasNames (selection_node name t) = IsName name × TreeHasNames t
+  TreeHasNames (expansion_node bs) = BranchesHaveNames bs
 
--- each variable has type O, and there is no quantifier, no bound index and no abstraction
-abbrev pub IsPropositional : Term → Type 0
-IsPropositional (free name s) = s ≡ truth_type
-IsPropositional (bound index) = ⊥
-IsPropositional (constant c) = IsConnective c
-IsPropositional (application f a) = IsPropositional f × IsPropositional a
-IsPropositional (abstraction s b) = ⊥
+  pub BranchesHaveNames : ExpansionBranches → Type 0
+  BranchesHaveNames no_branch = Unit {0}
+  BranchesHaveNames (branch u t bs) = HasNames u × TreeHasNames t × BranchesHaveNames bs
 
--- the form stands for the formula, which is propositional
-abbrev pub IsFormOfFormula : Form → Term → Type 0
-IsFormOfFormula f t = (f ≡ term_form t) × HasNames t × IsFormula t × IsPropositional t
+abbrev mutual
+  -- each term of the tree has a type and no loose index
+  pub TreeIsTyped : ExpansionTree → Type 0
+  TreeIsTyped leaf_node = Unit {0}
+  TreeIsTyped constant_node = Unit {0}
+  TreeIsTyped (negation_node t) = TreeIsTyped t
+  TreeIsTyped (connective_node op t u) = TreeIsTyped t × TreeIsTyped u
+  TreeIsTyped (selection_node name t) = TreeIsTyped t
+  TreeIsTyped (expansion_node bs) = BranchesAreTyped bs
 
--- a propositional formula whose names are names, and a tree without quantifiers
-pub record IsSmall (p : Proof) : Type 0 where
-  pub names : HasNames p.formula
+  pub BranchesAreTyped : ExpansionBranches → Type 0
+  BranchesAreTyped no_branch = Unit {0}
+  BranchesAreTyped (branch u t bs) = ((s : SimpleType) × Typed [] u s) × TreeIsTyped t × BranchesAreTyped bs
+
+-- the formula is a formula and the terms of the tree have types
+pub record IsTyped (p : Proof) : Type 0 where
   pub formula : IsFormula p.formula
-  pub propositional : IsPropositional p.formula
-  pub unquantified : IsUnquantified p.tree
+  pub terms : TreeIsTyped p.tree
+
+-- all names are names, as in each proof that the program holds
+pub record HasProofNames (p : Proof) : Type 0 where
+  pub formula : HasNames p.formula
+  pub tree : TreeHasNames p.tree
 
 -- the bytes are the text of this formula, tree and mating
-abbrev pub IsProofText : List ℕ → Proof → Type 0
-IsProofText bytes p = IsTextOf bytes (proof_form p) × IsSmall p
+pub record IsProofText (bytes : List ℕ) (p : Proof) : Type 0 where
+  pub text : IsTextOf bytes (proof_form p)
+  pub names : HasProofNames p
+  pub typed : IsTyped p

@@ -1,7 +1,15 @@
--- What the parts that the program found stand for.
-use Rattle.core_text.specs.Placed.{form_of, forms, placed_all}
+-- What the values that the program holds stand for.
+use Rattle.hol_terms.specs.Terms.{Term, plain_term}
+use Rattle.hol_terms.specs.declared.terms.Tm.{Tm}
+use Rattle.core_text.specs.Placed.{placed}
+use Rattle.expansion_tree.specs.declared.trees.Tree.{Tree}
+use Rattle.expansion_tree.specs.Trees.{ExpansionTree, plain_tree}
 use Rattle.proof_text.specs.declared.texts.TextParts.{TextParts}
-use Rattle.proof_text.specs.Computed.{Parts}
+use Rattle.proof_text.specs.Reading.{Parts}
 
 abbrev pub plain_parts : TextParts → Parts
-plain_parts parts = record { formula = form_of parts.formula.now; tree = form_of parts.tree.now; pairs = forms (placed_all parts.pairs.now) }
+plain_parts parts = record { version = placed parts.version.now; formula = placed parts.formula.now; tree = placed parts.tree.now; mating = placed parts.mating.now }
+
+-- a term with its tree
+abbrev pub plain_branch : Tm × Tree → Term × ExpansionTree
+plain_branch b = (plain_term b.0, plain_tree b.1)

@@ -1,51 +1,60 @@
 //! Matings read from forms.
 
-ghost use Rattle.std.specs.Prelude.{◌≡◌, IfOk, ℕ};
-ghost use Rattle.std.specs.Option.{option_map};
-ghost use Rattle.core_text.specs.Placed.{form_of, forms, placed_all};
-ghost use Rattle.proof_text.specs.Computed.{pair_of, pairs_of};
+ghost use Rattle.std.specs.Prelude.{◌≡◌, ℕ};
+ghost use Rattle.core_text.specs.Placed.{placed, placed_all};
+ghost use Rattle.core_text.specs.Reading.{Gives};
+ghost use Rattle.proof_text.specs.Reading.{mating_at, pair_at, pairs_at};
 
+use core_text::faults::TextFault;
 use core_text::sexps::{Sexp, Sexps};
+use core_text::terms::read_number;
 use expansion_tree::matings::Mating;
-use std::alloc::{AllocError, Global};
+use std::alloc::Global;
 
-/// The pair of numbers that the form spells.
-fn read_pair(form: &Sexp) -> Option<(u64, u64)>
-    ensures { result ≡ pair_of (form_of form.now) }
+/// The pair of numbers of a form.
+fn read_pair(form: &Sexp) -> Result<(u64, u64), TextFault>
+    ensures { Gives (λ pair. pair) result (pair_at (placed form.now)) }
 {
-    let Sexp::List(all, _) = form else {
-        return None;
+    let Sexp::List(all, place) = form else {
+        return Err(TextFault::BadForm(form.place()));
     };
     let Sexps::More(first, rest) = all else {
-        return None;
-    };
-    let Sexp::Number(i, _) = &**first else {
-        return None;
+        return Err(TextFault::BadForm(*place));
     };
     let Sexps::More(second, rest) = &**rest else {
-        return None;
-    };
-    let Sexp::Number(j, _) = &**second else {
-        return None;
+        return Err(TextFault::BadForm(*place));
     };
     let Sexps::End = &**rest else {
-        return None;
+        return Err(TextFault::BadForm(*place));
     };
-    Some((*i, *j))
+    let i = read_number(first)?;
+    let j = read_number(second)?;
+    Ok((i, j))
 }
 
-/// The mating that the forms spell, a pair each; `None` exactly where they spell none.
-pub fn read_mating(alloc: Global, all: &Sexps) -> Result<Option<Mating>, AllocError>
-    ensures { IfOk result (λ mating. mating ≡ pairs_of (forms (placed_all all.now))) }
+/// The pairs of the members of a list.
+fn read_pairs(alloc: Global, members: &Sexps) -> Result<Mating, TextFault>
+    ensures { Gives (λ mating. mating) result (pairs_at (placed_all members.now)) }
 {
     let mut mating = Mating::new(alloc);
-    let mut rest = all;
+    let mut rest = members;
     while let Sexps::More(form, more) = rest {
-        let Some((i, j)) = read_pair(form) else {
-            return Ok(None);
+        let (i, j) = match read_pair(form) {
+            Ok(pair) => pair,
+            Err(fault) => return Err(fault),
         };
         mating.push(i, j)?;
         rest = &**more;
     }
-    Ok(Some(mating))
+    Ok(mating)
+}
+
+/// Reads a mating. `BadForm` has the place of the first form, a list before its members, that has no place in the table.
+pub fn read_mating(alloc: Global, form: &Sexp) -> Result<Mating, TextFault>
+    ensures { Gives (λ mating. mating) result (mating_at (placed form.now)) }
+{
+    match form {
+        Sexp::List(members, _) => read_pairs(alloc, members),
+        _ => Err(TextFault::BadForm(form.place())),
+    }
 }

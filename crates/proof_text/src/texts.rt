@@ -1,27 +1,27 @@
 //! Proof texts read from bytes.
 
-ghost use Rattle.std.specs.Prelude.{◌≡◌, ◌↔◌, IfOk, IfSome, IsTrue, MatchOption};
-ghost use Rattle.std.specs.Option.{option_map};
-ghost use Rattle.hol_terms.specs.Terms.{Term, plain_constant, plain_term, plain_type, truth_type};
-ghost use Rattle.hol_terms.specs.Typing.{IsFormula};
-ghost use Rattle.core_text.specs.Forms.{Form, IsTextOf};
-ghost use Rattle.core_text.specs.Placed.{form_of};
-ghost use Rattle.proof_text.specs.Computed.{parts_of};
-ghost use Rattle.proof_text.specs.Texts.{IsConnective, IsFormOfFormula, IsProofText, IsPropositional, IsSmall, Proof, plain_proof, proof_form};
+ghost use Rattle.std.specs.Prelude.{◌≡◌, ◌≢◌, IfErr, IfOk};
+ghost use Rattle.hol_terms.specs.Terms.{plain_type};
+ghost use Rattle.core_text.specs.Judged.{Answers};
+ghost use Rattle.core_text.specs.Placed.{placed};
+ghost use Rattle.core_text.specs.Reading.{Gives};
+ghost use Rattle.proof_text.specs.Reading.{IsFirstFault, parts_at, proof_at, proof_in, proof_judged, truth_at, version_at};
+ghost use Rattle.proof_text.specs.Texts.{IsProofText, Proof, plain_proof};
 ghost use Rattle.proof_text.specs.Views.{plain_parts};
 
+use crate::judgements::judge_tree;
 use crate::matings::read_mating;
 use crate::trees::read_tree;
 use core_text::brackets::read_sexp;
 use core_text::faults::TextFault;
 use core_text::sexps::{Sexp, Sexps};
-use core_text::terms::{is_keyword, read_term};
+use core_text::terms::{is_keyword, read_preterm};
+use core_text::typings::judge;
 use expansion_tree::matings::Mating;
 use expansion_tree::trees::Tree;
-use hol_terms::terms::{Con, Tm};
+use hol_terms::terms::Tm;
 use hol_terms::types::Ty;
-use hol_terms::typing::type_of;
-use std::alloc::{AllocError, Global};
+use std::alloc::Global;
 
 /// What a proof text says: a formula, a tree and a mating.
 #[derive(Drop)]
@@ -31,162 +31,130 @@ pub struct ProofText {
     pub mating: Mating,
 }
 
-/// The parts of a proof text that aren't read yet.
+/// The members of the form of a proof text behind its first word.
 #[derive(Clone, Copy)]
 pub struct TextParts<'a> {
+    pub version: &'a Sexp,
     pub formula: &'a Sexp,
     pub tree: &'a Sexp,
-    pub pairs: &'a Sexps,
+    pub mating: &'a Sexp,
 }
 
-/// The parts of a form `(PROOF 1 formula tree mating)`, `None` exactly for another form.
-fn parts(form: &Sexp) -> Option<TextParts<'_>>
-    ensures { option_map plain_parts result ≡ parts_of (form_of form.now) }
+/// The parts of a form `(PROOF version formula tree mating)`.
+fn parts(form: &Sexp) -> Result<TextParts<'_>, TextFault>
+    ensures { Gives plain_parts result (parts_at (placed form.now)) }
 {
-    let Sexp::List(all, _) = form else {
-        return None;
+    let Sexp::List(all, place) = form else {
+        return Err(TextFault::BadForm(form.place()));
     };
     let Sexps::More(head, rest) = all else {
-        return None;
+        return Err(TextFault::BadForm(*place));
     };
     let Sexp::Word(word, _) = &**head else {
-        return None;
+        return Err(TextFault::BadForm(*place));
     };
     let Sexps::More(version, rest) = &**rest else {
-        return None;
-    };
-    let Sexp::Number(version, _) = &**version else {
-        return None;
+        return Err(TextFault::BadForm(*place));
     };
     let Sexps::More(formula, rest) = &**rest else {
-        return None;
+        return Err(TextFault::BadForm(*place));
     };
     let Sexps::More(tree, rest) = &**rest else {
-        return None;
+        return Err(TextFault::BadForm(*place));
     };
-    let Sexps::More(pairs, rest) = &**rest else {
-        return None;
-    };
-    let Sexp::List(pairs, _) = &**pairs else {
-        return None;
+    let Sexps::More(mating, rest) = &**rest else {
+        return Err(TextFault::BadForm(*place));
     };
     let Sexps::End = &**rest else {
-        return None;
+        return Err(TextFault::BadForm(*place));
     };
     if !is_keyword(word.as_slice(), b"PROOF") {
-        return None;
+        return Err(TextFault::BadForm(*place));
     }
-    if *version != 1 {
-        return None;
-    }
-    Some(TextParts {
+    Ok(TextParts {
+        version: &**version,
         formula: &**formula,
         tree: &**tree,
-        pairs,
+        mating: &**mating,
+    })
+}
+
+/// Whether the form is the number 1, the only version.
+fn read_version(form: &Sexp) -> Result<(), TextFault>
+    ensures { Gives (λ one. tt) result (version_at (placed form.now)) }
+{
+    match form {
+        Sexp::Number(number, place) => {
+            if *number == 1 {
+                Ok(())
+            } else {
+                Err(TextFault::BadForm(*place))
+            }
+        }
+        _ => Err(TextFault::BadForm(form.place())),
+    }
+}
+
+/// The proof of the parts, its terms typed or not.
+fn read_parts(alloc: Global, parts: TextParts<'_>) -> Result<ProofText, TextFault>
+    ensures { Gives plain_proof result (proof_in (plain_parts parts.entry)) }
+{
+    read_version(parts.version)?;
+    let formula = read_preterm(alloc, parts.formula)?;
+    let tree = read_tree(alloc, parts.tree)?;
+    let mating = read_mating(alloc, parts.mating)?;
+    Ok(ProofText {
+        formula,
+        tree,
+        mating,
     })
 }
 
 /// Whether the type is O.
-fn is_truth(ty: &Ty) -> bool
-    ensures { IsTrue result ↔ (plain_type ty.now ≡ truth_type) }
+#[tactic(auto, using(crate::proofs::Judged::truth_other))]
+fn judge_truth(ty: &Ty, place: u64) -> Result<(), TextFault>
+    ensures { Answers (λ done. tt) result (truth_at (plain_type ty.now) place) }
 {
-    ty.same(&Ty::truth())
-}
-
-/// Whether the term has type O and no loose index.
-fn is_formula(alloc: Global, t: &Tm) -> Result<bool, AllocError>
-    ensures { IfOk result (λ yes. IsTrue yes ↔ IsFormula (plain_term t.now)) }
-{
-    match type_of(alloc, t)? {
-        Some(ty) => Ok(is_truth(&ty)),
-        None => Ok(false),
+    if ty.same(&Ty::truth()) {
+        Ok(())
+    } else {
+        Err(TextFault::IllTyped(place))
     }
 }
 
-/// Whether the constant is no quantifier.
-fn is_connective(con: &Con) -> bool
-    ensures { IsTrue result ↔ IsConnective (plain_constant con.now) }
+/// Judges the formula and the terms of the tree, in the order of the text.
+fn judge_proof(alloc: Global, proof: &ProofText, parts: TextParts<'_>) -> Result<(), TextFault>
+    ensures { Answers (λ done. tt) result (proof_judged (plain_proof proof.now) (plain_parts parts.entry)) }
 {
-    !matches!(con, Con::All(_) | Con::Ex(_))
+    let ty = judge(alloc, &proof.formula, parts.formula)?;
+    judge_tree(alloc, &proof.tree, parts.tree)?;
+    judge_truth(&ty, parts.formula.place())
 }
 
-/// Whether each variable has type O, and there is no quantifier, no bound index and no abstraction.
-fn is_propositional(t: &Tm) -> bool
-    ensures { IsTrue result ↔ IsPropositional (plain_term t.now) }
+/// The proof of a form.
+fn read_form(alloc: Global, form: &Sexp) -> Result<ProofText, TextFault>
+    ensures { Answers plain_proof result (proof_at (placed form.now)) }
 {
-    match t {
-        Tm::Free(_, ty) => is_truth(ty),
-        Tm::Bound(_) => false,
-        Tm::Con(con) => is_connective(con),
-        Tm::App(function, argument) => is_propositional(function) && is_propositional(argument),
-        Tm::Lam(_, _) => false,
+    let parts = parts(form)?;
+    let proof = read_parts(alloc, parts)?;
+    match judge_proof(alloc, &proof, parts) {
+        Ok(_) => Ok(proof),
+        Err(fault) => Err(fault),
     }
 }
 
-/// The propositional formula that the form spells, `None` exactly where it spells none.
-fn read_formula(alloc: Global, form: &Sexp) -> Result<Option<Tm>, AllocError>
-    ensures { IfOk result (λ formula. MatchOption formula ((t : Term) → IsFormOfFormula (form_of form.now) t → ⊥) (λ t. IsFormOfFormula (form_of form.now) (plain_term t))) }
-{
-    let formula = match read_term(alloc, form) {
-        Ok(formula) => formula,
-        Err(TextFault::Memory) => return Err(AllocError),
-        Err(_) => return Ok(None),
-    };
-    if !is_formula(alloc, &formula)? {
-        return Ok(None);
-    }
-    if !is_propositional(&formula) {
-        return Ok(None);
-    }
-    Ok(Some(formula))
-}
-
-/// The form that the bytes are the text of, `None` exactly where they are the text of none.
-fn read_bytes(alloc: Global, bytes: &[u8]) -> Result<Option<Sexp>, AllocError>
-    ensures { IfOk result (λ form. MatchOption form ((f : Form) → IsTextOf bytes.now f → ⊥) (λ s. IsTextOf bytes.now (form_of s))) }
+/// Reads a proof text. The first fault is one of the bytes as a bracketed form; then `BadForm`, with the place of the first form, a
+/// list before its members, that has no place in the table; then `LooseIndex` and `IllTyped` of the formula and of each term of the
+/// tree, in the order of the text; and then `IllTyped` at a formula of another type than O.
+pub fn read_proof(alloc: Global, bytes: &[u8]) -> Result<ProofText, TextFault>
+    ensures found { IfOk result (λ text. IsProofText bytes.now (plain_proof text)) }
+    ensures only { IfOk result (λ text. (p : Proof) → IsProofText bytes.now p → p ≡ plain_proof text) }
+    ensures fault { IfErr result (λ e. IsFirstFault bytes.now e) }
+    ensures none { IfErr result (λ e. e ≢ TextFault.Memory → (p : Proof) → IsProofText bytes.now p → ⊥) }
 {
     match read_sexp(alloc, bytes) {
-        Ok(form) => Ok(Some(form)),
-        Err(TextFault::Memory) => Err(AllocError),
-        Err(_) => Ok(None),
-    }
-}
-
-/// The proof text that the form spells, `None` exactly where it spells none.
-fn read_form(alloc: Global, form: &Sexp) -> Result<Option<ProofText>, AllocError>
-    ensures { IfOk result (λ text. MatchOption text ((p : Proof) → form_of form.now ≡ proof_form p → IsSmall p → ⊥) (λ t. (form_of form.now ≡ proof_form (plain_proof t)) × IsSmall (plain_proof t))) }
-{
-    let Some(parts) = parts(form) else {
-        return Ok(None);
-    };
-    let Some(formula) = read_formula(alloc, parts.formula)? else {
-        return Ok(None);
-    };
-    let Some(tree) = read_tree(alloc, parts.tree)? else {
-        return Ok(None);
-    };
-    let Some(mating) = read_mating(alloc, parts.pairs)? else {
-        return Ok(None);
-    };
-    Ok(Some(ProofText {
-        formula,
-        tree,
-        mating,
-    }))
-}
-
-/// Reads a proof text without quantifiers: `None` exactly where the bytes aren't such a text. A text has one formula, one tree and one
-/// mating at most.
-pub fn read_proof(alloc: Global, bytes: &[u8]) -> Result<Option<ProofText>, AllocError>
-    ensures found { IfOk result (λ text. MatchOption text ((p : Proof) → IsProofText bytes.now p → ⊥) (λ t. IsProofText bytes.now (plain_proof t))) }
-    ensures only { IfOk result (λ text. IfSome text (λ t. (p : Proof) → IsProofText bytes.now p → p ≡ plain_proof t)) }
-{
-    let Some(form) = read_bytes(alloc, bytes)? else {
-        return Ok(None);
-    };
-    match read_form(alloc, &form)? {
-        Some(text) => Ok(Some(text)),
-        None => Ok(None),
+        Ok(form) => read_form(alloc, &form),
+        Err(fault) => Err(fault),
     }
 }
 

@@ -1,4 +1,3 @@
-pub mod Proofs
 pub mod Results
 pub mod Runs
 pub mod Statuses

@@ -7,7 +7,7 @@ use Rattle.tps_cli.specs.declared.command.Command.{Command}
 use Rattle.tps_cli.specs.declared.command.Command.TheVariants.{Check}
 use Rattle.tps_cli.specs.declared.status.Status.{Status}
 use Rattle.tps_cli.specs.declared.status.Status.TheVariants.{Done, No, Words, BadText, TooLong, ReadFault, WriteFault, Memory}
-use Rattle.tps_cli.specs.Proofs.{IsProof}
+use Rattle.exp_check.specs.Proofs.{IsProof}
 
 -- the bytes are a proof text
 abbrev pub IsReadable : List ℕ → Type 0

@@ -1,19 +1,16 @@
 //! The command `check`.
 
-ghost use Rattle.std.specs.Prelude.{◌≡◌, ◌↔◌, IfOk, IsTrue};
-ghost use Rattle.hol_terms.specs.Terms.{plain_term};
-ghost use Rattle.hol_terms.specs.Typing.{IsFormula};
-ghost use Rattle.proof_text.specs.Texts.{plain_proof};
-ghost use Rattle.tps_cli.specs.Proofs.{IsMated, IsProof};
+ghost use Rattle.std.specs.Prelude.{◌≡◌, ◌↔◌, IfOk, IfSome, IsTrue, MatchOption};
+ghost use Rattle.exp_check.specs.Proofs.{IsProof};
+ghost use Rattle.proof_text.specs.Texts.{IsProofText, IsTyped, Proof, plain_proof};
 ghost use Rattle.tps_cli.specs.Results.{Answers, output, status_of};
 ghost use Rattle.tps_cli.specs.declared.command.Command.TheVariants.{Check};
 
-use expansion_tree::faults::FitFault;
-use expansion_tree::fitted::Fitted;
-use expansion_tree::matings::Mating;
+use core_text::faults::TextFault;
+use exp_check::checks::check as check_proof;
+use exp_check::faults::CheckFault;
 use proof_text::texts::{ProofText, read_proof};
 use std::alloc::{AllocError, Global};
-use vertical_paths::matings::{bad_pair, first_open};
 
 /// What `check` finds.
 #[derive(Clone, Copy, Debug, PartialEq, Eq)]
@@ -26,43 +23,35 @@ pub enum Verdict {
     Unreadable,
 }
 
-/// Whether each pair is good and each path holds a pair.
-fn is_mated(alloc: Global, fitted: &Fitted, mating: &Mating) -> Result<bool, AllocError>
-    ensures { IfOk result (λ yes. IsTrue yes ↔ IsMated fitted.now mating.now) }
+/// The proof text that the bytes are, `None` exactly where they are none.
+fn read(alloc: Global, bytes: &[u8]) -> Result<Option<ProofText>, AllocError>
+    ensures found { IfOk result (λ text. MatchOption text ((p : Proof) → IsProofText bytes.now p → ⊥) (λ t. IsProofText bytes.now (plain_proof t))) }
+    ensures only { IfOk result (λ text. IfSome text (λ t. (p : Proof) → IsProofText bytes.now p → p ≡ plain_proof t)) }
 {
-    if bad_pair(fitted, mating).is_some() {
-        return Ok(false);
-    }
-    match first_open(alloc, fitted, mating)? {
-        Some(_) => Ok(false),
-        None => Ok(true),
+    match read_proof(alloc, bytes) {
+        Ok(text) => Ok(Some(text)),
+        Err(TextFault::Memory) => Err(AllocError),
+        Err(_) => Ok(None),
     }
 }
 
 /// Whether the proof text is an expansion proof.
 fn is_proof(alloc: Global, text: ProofText) -> Result<bool, AllocError>
-    requires { IsFormula (plain_term text.formula) }
+    requires { IsTyped (plain_proof text) }
     ensures { IfOk result (λ yes. IsTrue yes ↔ IsProof (plain_proof text)) }
 {
-    let ProofText {
-        formula,
-        tree,
-        mating,
-    } = text;
-    let fitted = match Fitted::new(alloc, formula, tree) {
-        Ok(fitted) => fitted,
-        Err(FitFault::Memory) => return Err(AllocError),
-        Err(FitFault::Misfit(_)) => return Ok(false),
-    };
-    let yes = is_mated(alloc, &fitted, &mating)?;
-    Ok(yes)
+    match check_proof(alloc, text) {
+        Ok(_) => Ok(true),
+        Err(CheckFault::Memory) => Err(AllocError),
+        Err(_) => Ok(false),
+    }
 }
 
 /// What `check` answers to the bytes.
 pub fn check(alloc: Global, bytes: &[u8]) -> Result<Verdict, AllocError>
     ensures { IfOk result (λ verdict. Answers Check bytes.now (status_of verdict) (output (status_of verdict))) }
 {
-    let Some(text) = read_proof(alloc, bytes)? else {
+    let Some(text) = read(alloc, bytes)? else {
         return Ok(Verdict::Unreadable);
     };
     if is_proof(alloc, text)? {

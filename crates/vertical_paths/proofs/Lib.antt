@@ -5,3 +5,4 @@ pub mod Closing
 pub mod Chains
 pub mod Passing
 pub mod Pairs
+pub mod Spanning

@@ -1,3 +1,4 @@
 pub mod Matings
 pub mod Partners
 pub mod Walks
+pub mod Tautologies

@@ -1,5 +1,5 @@
 -- Good pairs, the paths that hold a pair, and the first that holds none. After Andrews 1981.
-use Rattle.std.specs.Prelude.{◌≡◌, ℕ, ◌-◌, ◌≤◌, length, take, ◌==◌, if◌then◌else◌, List, Bool, true, not, ◌&&◌, Option, Some, None, slice_get, find, All}
+use Rattle.std.specs.Prelude.{◌≡◌, ℕ, ◌-◌, ◌≤◌, length, take, ◌==◌, if◌then◌else◌, List, Bool, true, not, ◌&&◌, Option, Some, None, slice_get, find, All, Contains, ◌⊎◌}
 use Rattle.std.specs.List.{list_any}
 use Rattle.hol_terms.specs.Terms.{Term}
 
@@ -10,6 +10,10 @@ leaf_at leaves n = if n == 0 then None else slice_get leaves (n - 1)
 -- both numbers are leaves, of opposite polarity and with equal formulas
 abbrev pub IsGood : List (Bool × Term) → ℕ × ℕ → Type 0
 IsGood leaves pair = (p : Bool) × (a : Term) × (leaf_at leaves pair.0 ≡ Some (p, a)) × (leaf_at leaves pair.1 ≡ Some (not p, a))
+
+-- the mating holds each good pair, in one order or the other
+abbrev pub HoldsGoodPairs : List (Bool × Term) → List (ℕ × ℕ) → Type 0
+HoldsGoodPairs leaves pairs = (i j : ℕ) → IsGood leaves (i, j) → Contains pairs (i, j) ⊎ Contains pairs (j, i)
 
 -- pair n, from 1, isn't good, and each pair before it is
 pub record IsFirstBad (leaves : List (Bool × Term)) (pairs : List (ℕ × ℕ)) (n : ℕ) : Type 0 where

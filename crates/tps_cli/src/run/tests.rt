@@ -61,6 +61,17 @@ fn other_texts_are_told_apart(rt: HostRuntime) -> Result<(), Fail> {
 }
 
 #[test]
+fn a_cut_text_is_none(rt: HostRuntime) -> Result<(), Fail> {
+    let alloc = rt.alloc();
+    for end in 0..PROOF.len() {
+        let (status, written) = check_on(alloc, PROOF.get(0..end).unwrap_or("TRUTH"))?;
+        assert_eq!(rt; status, Status::BadText);
+        assert!(rt; written.is_empty());
+    }
+    Ok(())
+}
+
+#[test]
 fn other_words_do_nothing(rt: HostRuntime) -> Result<(), Fail> {
     let alloc = rt.alloc();
     for words in ["", "Check", "check x"] {

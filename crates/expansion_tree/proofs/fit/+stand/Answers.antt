@@ -1,46 +1,80 @@
-use Rattle.std.proofs.Common.{rules, ap}
+use Rattle.std.proofs.Common.{◌≡◌, ◌∙◌, ap, sym, refl, inl, arith}
 use Rattle.std.proofs.lemmas.Result.{err_from_is_err_and}
-use Rattle.hol_terms.specs.Terms.{plain_term}
-use Rattle.expansion_tree.specs.Trees.{plain_tree}
-use Rattle.expansion_tree.proofs.Walks.{leaf_stood, closed_stood, empty_stood, negation_stood, compound_stood, left_misfits, right_misfits}
+use Rattle.hol_terms.specs.Terms.{Constant, plain_term, plain_type}
+use Rattle.expansion_tree.specs.Standing.{quantified}
+use Rattle.expansion_tree.specs.Stood.{findings_of}
+use Rattle.expansion_tree.specs.Trees.{plain_branches, plain_tree, branch, branch_node_count}
+use Rattle.expansion_tree.proofs.Formulas.{expanding_is}
+use Rattle.expansion_tree.proofs.Walks.{compound_stood, expansion_stood}
+use Rattle.expansion_tree.proofs.Stepping.{constant_fault, negation_result, selection_result, selection_fault, one_more_stood, one_more_fault, all_stood, branch_fault}
 use Rattle.expansion_tree.proofs.fit.+stand.Goals as goal
 
-pub returns-in_ok-push-in-Leaf-clause-ok : goal.returns-in_ok-push-in-Leaf-clause-ok
-returns-in_ok-push-in-Leaf-clause-ok t c =
-    rw c.in-Leaf.is (leaf_stood c.args.positive (plain_term c.args.formula.now) c.args.node c.in_ok-number-in-Leaf.number c.in_ok-end-in-Leaf.end _ c.args.leaves.now.items c.push.new.self.items
-    (search rules) (ap (λ a. (c.args.positive, a)) c.in_ok-formula-in-Leaf.ensures) (search rules) c.in_ok-end-in-Leaf.ensures.ok)
+pub stand-returns-in-Const-clause-fault : goal.stand-returns-in-Const-clause-fault
+stand-returns-in-Const-clause-fault t c =
+    rw c.in-Const.is (constant_fault c.args.positive (plain_term c.args.formula) c.args.node c.args.found.now.taken c.stand_constant.result c.stand_constant.ensures.fault)
 
-pub returns-then-value-positive-clause-ok : goal.returns-then-value-positive-clause-ok
-returns-then-value-positive-clause-ok t c =
-    rw c.in-Const.is (closed_stood c.args.positive c.in-Some.value (plain_term c.args.formula.now) c.args.node c.in_ok-end-in-Const.end c.args.leaves.now.items c.in-Some.ensures.some c.if-value-positive.true c.in_ok-end-in-Const.ensures.ok)
+pub stand_branches-returns-in_err-matrix-clause-fault : goal.stand_branches-returns-in_err-matrix-clause-fault
+stand_branches-returns-in_err-matrix-clause-fault t c =
+    let fault = rw c.deref.ensures at c.in_err-matrix.ensures.fault in
+    let p = err_from_is_err_and c.from_residual.result c.from_residual.ensures.1 in
+    rw (p.1, p.2)
+    (branch_fault (plain_term c.in-More.term) (plain_tree c.in-More.tree.value) (plain_branches c.in-More.more.value) (plain_branches c.loop-rest.rest.now) (plain_branches c.args.branches.now)
+    c.args.positive (plain_type c.args.ty.now) (plain_term c.args.body.now) c.args.first c.loop-rest.at c.args.found.now.taken c.loop-rest.found.taken c.in_err-matrix.field-0.0
+    (ap plain_branches c.in-More.is) c.loop-rest.invariant.fault fault)
 
-pub returns-else-value-positive-clause-ok : goal.returns-else-value-positive-clause-ok
-returns-else-value-positive-clause-ok t c =
-    rw c.in-Const.is (empty_stood c.args.positive c.in-Some.value (plain_term c.args.formula.now) c.args.node c.in_ok-end-in-Const.end c.args.leaves.now.items c.in-Some.ensures.some c.if-value-positive.false c.in_ok-end-in-Const.ensures.ok)
+pub stand_branches-loop-rest-preserved : goal.stand_branches-loop-rest-preserved
+stand_branches-loop-rest-preserved t c =
+    let ok = rw c.deref.ensures at c.in_ok-matrix.ensures.ok in
+    let here : plain_branches c.loop-rest.rest.now ≡ branch (plain_term c.in-More.term) (plain_tree c.in-More.tree.value) (plain_branches c.in-More.more.value) = ap plain_branches c.in-More.is in
+    rw c.deref-rest.ensures record {
+      stood =
+          one_more_stood (plain_term c.in-More.term) (plain_tree c.in-More.tree.value) (plain_branches c.in-More.more.value) (plain_branches c.loop-rest.rest.now) (plain_branches c.args.branches.now)
+          c.args.positive (plain_type c.args.ty.now) (plain_term c.args.body.now) c.args.first c.loop-rest.at c.in_ok-matrix.end (findings_of c.args.found.now) (findings_of c.loop-rest.found) (findings_of c.stand_branch.new.found)
+          c.in_ok-matrix.matrix c.loop-rest.matrices.items c.push.new.self.items here c.in_ok-matrix.ensures.long ok c.in_ok-push.ensures.items c.loop-rest.invariant.stood;
+      fault =
+          one_more_fault (plain_term c.in-More.term) (plain_tree c.in-More.tree.value) (plain_branches c.in-More.more.value) (plain_branches c.loop-rest.rest.now) (plain_branches c.args.branches.now)
+          c.args.positive (plain_type c.args.ty.now) (plain_term c.args.body.now) c.args.first c.loop-rest.at c.in_ok-matrix.end c.args.found.now.taken (findings_of c.loop-rest.found) (findings_of c.stand_branch.new.found)
+          c.in_ok-matrix.matrix here c.in_ok-matrix.ensures.long ok c.loop-rest.invariant.fault;
+      smaller = omega (arith, ap branch_node_count here, c.loop-rest.invariant.smaller);
+    }
 
-pub returns-in_ok-matrix-in-Bin-clause-ok : goal.returns-in_ok-matrix-in-Bin-clause-ok
-returns-in_ok-matrix-in-Bin-clause-ok t c =
-    let left = rw (c.in_ok-next-in-Bin.ensures.ok, c.left_polarity-left.ensures, c.deref-in-Bin.ensures) at c.in_ok-left-in-Bin.ensures.ok in
-    let right = rw c.deref-in-Bin-2.ensures at c.in_ok-right-in-Bin.ensures.ok in
-    rw c.in-Bin.is (compound_stood c.in-Bin.op (plain_tree c.in-Bin.t.value) (plain_tree c.in-Bin.u.value) c.args.positive (plain_term c.args.formula.now)
-    (plain_term c.in-Some-sides.b.now) (plain_term c.in-Some-sides.c.now) c.args.node _ _ _ _ _ _ _ _ c.in-Some-sides.ensures.some left right c.in_ok-matrix-in-Bin.ensures.paths c.in_ok-matrix-in-Bin.ensures.numbered)
+pub stand_branches-returns-clause-ok : goal.stand_branches-returns-clause-ok
+stand_branches-returns-clause-ok t c =
+    all_stood (plain_branches c.loop-rest.rest.now) (plain_branches c.args.branches.now) c.args.positive (plain_type c.args.ty.now) (plain_term c.args.body.now) c.args.first c.loop-rest.at
+    (findings_of c.args.found.now) (findings_of c.loop-rest.found) c.loop-rest.matrices.items (ap plain_branches c.in_default.is) c.loop-rest.invariant.stood
 
-pub returns-in_err-left-in-Bin-clause-fault : goal.returns-in_err-left-in-Bin-clause-fault
-returns-in_err-left-in-Bin-clause-fault t c =
-    let fault = rw (c.in_ok-next-in-Bin.ensures.ok, c.left_polarity-left.ensures, c.deref-in-Bin.ensures) at c.in_err-left-in-Bin.ensures.fault in
-    let p = err_from_is_err_and c.from_residual-in_err-left-in-Bin.result c.from_residual-in_err-left-in-Bin.ensures.1 in
-    rw (p.1, p.2, c.in-Bin.is) (left_misfits _ c.in-Bin.op (plain_tree c.in-Bin.t.value) (plain_tree c.in-Bin.u.value) c.args.positive (plain_term c.args.formula.now)
-    (plain_term c.in-Some-sides.b.now) (plain_term c.in-Some-sides.c.now) c.args.node c.in-Some-sides.ensures.some fault)
+pub stand_compound-returns-clause-ok : goal.stand_compound-returns-clause-ok
+stand_compound-returns-clause-ok t c =
+    let left = rw (c.in_ok-below.ensures.ok, c.left_polarity-polarity.ensures) at c.in_ok-left.ensures.ok in
+    compound_stood c.args.op (plain_tree c.args.t.now) (plain_tree c.args.u.now) c.args.positive (plain_term c.args.formula) (plain_term c.in-Some.b) (plain_term c.in-Some.c)
+    c.args.node c.in_ok-left.middle c.in_ok-right.end (findings_of c.args.found.now) (findings_of c.stand.new.found) (findings_of c.stand-2.new.found) c.in_ok-left.left c.in_ok-right.right c.in_ok-matrix.matrix
+    c.in-Some.ensures.some left c.in_ok-right.ensures.ok c.in_ok-matrix.ensures.paths c.in_ok-matrix.ensures.numbered
 
-pub returns-in_err-right-in-Bin-clause-fault : goal.returns-in_err-right-in-Bin-clause-fault
-returns-in_err-right-in-Bin-clause-fault t c =
-    let left = rw (c.in_ok-next-in-Bin.ensures.ok, c.left_polarity-left.ensures, c.deref-in-Bin.ensures) at c.in_ok-left-in-Bin.ensures.ok in
-    let fault = rw c.deref-in-Bin-2.ensures at c.in_err-right-in-Bin.ensures.fault in
-    let p = err_from_is_err_and c.from_residual-in_err-right-in-Bin.result c.from_residual-in_err-right-in-Bin.ensures.1 in
-    rw (p.1, p.2, c.in-Bin.is) (right_misfits _ c.in-Bin.op (plain_tree c.in-Bin.t.value) (plain_tree c.in-Bin.u.value) c.args.positive (plain_term c.args.formula.now)
-    (plain_term c.in-Some-sides.b.now) (plain_term c.in-Some-sides.c.now) left.standing c.args.node _ c.in-Some-sides.ensures.some left.stands left.counted fault)
+pub stand_expansion-returns-in_default-clause-fault : goal.stand_expansion-returns-in_default-clause-fault
+stand_expansion-returns-in_default-clause-fault t c =
+    inl (refl, λ ty b e. c.in_default.ensures.none ty b (e ∙ ap (λ (k : Constant). quantified k ty b) (expanding_is c.args.positive ty)))
 
-pub returns-in_ok-matrix-in-Not-clause-ok : goal.returns-in_ok-matrix-in-Not-clause-ok
-returns-in_ok-matrix-in-Not-clause-ok t c =
-    let child = rw (c.in_ok-next-in-Not.ensures.ok, c.deref.ensures) at c.in_ok-matrix-in-Not.ensures.ok in
-    rw c.in-Not.is (negation_stood (plain_tree c.in-Not.t.value) c.args.positive (plain_term c.args.formula.now) (plain_term c.in-Some-negated.b.now) c.args.node _ _ _ _ c.in-Some-negated.ensures.some child)
+pub stand_expansion-returns-clause-ok : goal.stand_expansion-returns-clause-ok
+stand_expansion-returns-clause-ok t c =
+    let branches = rw c.in_ok-below.ensures.ok at c.in_ok-matrices.ensures.ok in
+    expansion_stood (plain_branches c.args.branches.now) c.args.positive (plain_term c.args.formula) (plain_term c.in-Some.body) (plain_type c.in-Some.ty) c.args.node c.in_ok-matrices.end
+    (findings_of c.args.found.now) (findings_of c.stand_branches.new.found) c.in_ok-matrices.matrices.items c.in_ok-matrix.matrix
+    (c.in-Some.ensures.some ∙ ap (λ (k : Constant). quantified k (plain_type c.in-Some.ty) (plain_term c.in-Some.body)) (sym (expanding_is c.args.positive (plain_type c.in-Some.ty))))
+    branches c.in_ok-matrix.ensures.paths c.in_ok-matrix.ensures.numbered
+
+pub stand_negation-returns-clause-ok : goal.stand_negation-returns-clause-ok
+stand_negation-returns-clause-ok t c =
+    let below = rw c.in_ok-below.ensures.ok at c.stand.ensures.ok in
+    negation_result (plain_tree c.args.t.now) c.args.positive (plain_term c.args.formula) (plain_term c.in-Some.b) c.args.node (findings_of c.args.found.now) (findings_of c.stand.new.found) c.stand.result c.in-Some.ensures.some below
+
+pub stand_selection-returns-clause-ok : goal.stand_selection-returns-clause-ok
+stand_selection-returns-clause-ok t c =
+    let below = rw (c.in_ok-below.ensures.ok, c.in_ok-instance.ensures.instance) at c.stand.ensures.ok in
+    selection_result c.args.name.now (plain_tree c.args.t.now) c.args.positive (plain_term c.args.formula) (plain_term c.in-Some.body) (plain_type c.in-Some.ty) c.args.node
+    (findings_of c.args.found.now) (findings_of c.select.new.self) (findings_of c.stand.new.found) c.stand.result c.in-Some.ensures.some (c.in_ok-select.ensures.new c.if-not-branch.false) below
+
+pub stand_selection-returns-clause-fault : goal.stand_selection-returns-clause-fault
+stand_selection-returns-clause-fault t c =
+    let below = rw (c.in_ok-below.ensures.ok, c.in_ok-instance.ensures.instance) at c.stand.ensures.fault in
+    selection_fault c.args.name.now (plain_tree c.args.t.now) c.args.positive (plain_term c.args.formula) (plain_term c.in-Some.body) (plain_type c.in-Some.ty) c.args.node
+    (findings_of c.args.found.now) (findings_of c.select.new.self) c.stand.result c.in-Some.ensures.some (c.in_ok-select.ensures.new c.if-not-branch.false) below

@@ -1,6 +1,5 @@
-use Rattle.std.proofs.Common.{◌≡◌, [], ◌∷◌, ◌++◌, sym, ◌∙◌, ap, refl, ◌+◌, arith}
+use Rattle.std.proofs.Common.{◌≡◌, ap, refl, ◌+◌, arith}
 use Rattle.expansion_tree.specs.Trees.{plain_branches, plain_tree, node_count, branch_node_count}
-use Rattle.expansion_tree.specs.Copies.{branches_from}
 use Rattle.expansion_tree.proofs.Chains.{copy_on}
 use Rattle.expansion_tree.proofs.trees.+copy.Goals as goal
 

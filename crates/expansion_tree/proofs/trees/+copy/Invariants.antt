@@ -3,9 +3,12 @@ use Rattle.expansion_tree.specs.Copies.{branches_from}
 use Rattle.expansion_tree.specs.Trees.{plain_branches, plain_tree, node_count, branch_node_count}
 use Rattle.expansion_tree.proofs.trees.+copy.Given as goal
 
--- twice the number of nodes, and one more for branches
+-- twice the number of nodes, and one more for a box and for branches
 abbrev pub decreases-Tree::copy : goal.decreases-Tree::copy
 decreases-Tree::copy l = 2 * node_count (plain_tree l.self.now)
+
+abbrev pub decreases-boxed : goal.decreases-boxed
+decreases-boxed l = 2 * node_count (plain_tree l.tree.now) + 1
 
 abbrev pub decreases-Branches::copy : goal.decreases-Branches::copy
 decreases-Branches::copy l = 2 * branch_node_count (plain_branches l.self.now) + 1

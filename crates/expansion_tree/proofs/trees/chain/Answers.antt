@@ -1,6 +1,5 @@
-use Rattle.std.proofs.Common.{◌≡◌, [], ◌∷◌, ◌++◌, sym, ◌∙◌, ap, refl}
+use Rattle.std.proofs.Common.{refl}
 use Rattle.expansion_tree.specs.Trees.{plain_branches}
-use Rattle.expansion_tree.specs.Copies.{branches_from}
 use Rattle.expansion_tree.proofs.Chains.{chain_on}
 use Rattle.expansion_tree.proofs.trees.chain.Goals as goal
 

@@ -1,19 +1,18 @@
-use Rattle.core_text.specs.Placed.{form_of}
-use Rattle.proof_text.specs.Texts.{plain_proof}
-use Rattle.proof_text.proofs.ProofForms.{no_text, no_proof, one_proof}
+use Rattle.core_text.specs.Placed.{placed}
+use Rattle.proof_text.proofs.Whole.{found, no_text, none, only}
 use Rattle.proof_text.proofs.texts.read_proof.Goals as goal
 
-pub returns-in_default-clause-found : goal.returns-in_default-clause-found
-returns-in_default-clause-found c = let none = rw c.in_default.is at c.in_ok-form.ensures in no_text c.args.bytes.now none
+pub returns-in-Ok-clause-found : goal.returns-in-Ok-clause-found
+returns-in-Ok-clause-found c =
+    found c.args.bytes.now (placed c.in-Ok.form) (record { text = c.in-Ok.ensures.text; places = c.in-Ok.ensures.places }) c.read_form.result c.read_form.ensures
 
-pub returns-in-Some-2-clause-only : goal.returns-in-Some-2-clause-only
-returns-in-Some-2-clause-only c =
-    let text = rw c.in-Some.is at c.in_ok-form.ensures in
-    let found = rw c.in-Some-2.is at c.in_ok-text.ensures in
-    one_proof c.args.bytes.now (form_of c.in-Some.form) (plain_proof c.in-Some-2.text) text found.0 found.1
+pub returns-in-Ok-clause-only : goal.returns-in-Ok-clause-only
+returns-in-Ok-clause-only c =
+    only c.args.bytes.now (placed c.in-Ok.form) (record { text = c.in-Ok.ensures.text; places = c.in-Ok.ensures.places }) c.read_form.result c.read_form.ensures
 
-pub returns-clause-found : goal.returns-clause-found
-returns-clause-found c =
-    let text = rw c.in-Some.is at c.in_ok-form.ensures in
-    let none = rw c.in-None.is at c.in_ok-text.ensures in
-    no_proof c.args.bytes.now (form_of c.in-Some.form) text none
+pub returns-in-Ok-clause-none : goal.returns-in-Ok-clause-none
+returns-in-Ok-clause-none c =
+    none c.args.bytes.now (placed c.in-Ok.form) (record { text = c.in-Ok.ensures.text; places = c.in-Ok.ensures.places }) c.read_form.result c.read_form.ensures
+
+pub returns-in-Err-clause-none : goal.returns-in-Err-clause-none
+returns-in-Err-clause-none c = λ other. no_text c.args.bytes.now (c.in-Err.ensures.no_text other)

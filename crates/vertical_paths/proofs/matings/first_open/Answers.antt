@@ -1,18 +1,10 @@
-use Rattle.std.proofs.Common.{sym, subst, ◌↔◌, IsNone}
-use Rattle.vertical_paths.specs.Matings.{Spans}
-use Rattle.vertical_paths.proofs.Closing.{none_open_iff_spans}
+use Rattle.vertical_paths.proofs.Spanning.{spanned_gives, spanned_decides, ok_weaker}
 use Rattle.vertical_paths.proofs.matings.first_open.Goals as goal
 
-pub returns-in_ok-numbers_of-in-Some-clause-spans : goal.returns-in_ok-numbers_of-in-Some-clause-spans
-returns-in_ok-numbers_of-in-Some-clause-spans c =
-    let pairs = c.args.mating.now in
-    let paths = c.args.fitted.now.path_list in
-    let first = rw (c.pairs.ensures, c.matrix.ensures.paths, c.in-Some.is) at c.in_ok-path.ensures in
-    subst (λ path. IsNone path ↔ Spans pairs paths) (sym first) (none_open_iff_spans pairs paths)
+pub returns-clause-tautology : goal.returns-clause-tautology
+returns-clause-tautology c =
+    ok_weaker (λ path tells. spanned_gives c.args.fitted.now c.args.mating.now path tells) c.open_path.result c.open_path.ensures.spans
 
-pub returns-in-None-clause-spans : goal.returns-in-None-clause-spans
-returns-in-None-clause-spans c =
-    let pairs = c.args.mating.now in
-    let paths = c.args.fitted.now.path_list in
-    let first = rw (c.pairs.ensures, c.matrix.ensures.paths, c.in-None.is) at c.in_ok-path.ensures in
-    subst (λ path. IsNone path ↔ Spans pairs paths) (sym first) (none_open_iff_spans pairs paths)
+pub returns-clause-decides : goal.returns-clause-decides
+returns-clause-decides c =
+    ok_weaker (λ path tells. spanned_decides c.args.fitted.now c.args.mating.now path c.tree.ensures.stands tells) c.open_path.result c.open_path.ensures.spans

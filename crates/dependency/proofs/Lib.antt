@@ -1,0 +1,10 @@
+pub mod Lists
+pub mod Marks
+pub mod Preorder
+pub mod Steps
+pub mod Using
+pub mod Chains
+pub mod Climbing
+pub mod Cycles
+pub mod Nested
+pub mod Ordering

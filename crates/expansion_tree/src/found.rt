@@ -1,0 +1,67 @@
+//! What the walk along a tree finds: its leaves and its selected variables.
+
+ghost use Rattle.std.specs.Prelude.{◌≡◌, ◌++◌, ◌∷◌, [], Contains, IfOk, OnOk, map, true, false};
+ghost use Rattle.hol_terms.specs.Terms.{plain_term, plain_type};
+ghost use Rattle.expansion_tree.specs.Stood.{findings_of, with_more};
+
+use hol_terms::names::Name;
+use hol_terms::terms::Tm;
+use hol_terms::types::Ty;
+use hol_terms::variable_sets::VariableSet;
+use std::alloc::{AllocError, Global};
+
+/// A leaf of a fitted tree.
+#[derive(Drop)]
+pub struct Leaf {
+    pub positive: bool,
+    pub formula: Tm,
+}
+
+/// A variable that a tree selects, with the number of the node that selects it.
+#[derive(Drop)]
+pub struct Selected {
+    pub node: u64,
+    pub name: Name,
+    pub ty: Ty,
+}
+
+/// The leaves and the selected variables that were found, and the variables that are taken: those that are free in the formula,
+/// and the selected ones.
+#[derive(Drop)]
+pub struct Found {
+    pub leaves: Vec<Leaf>,
+    pub selections: Vec<Selected>,
+    pub taken: VariableSet,
+}
+
+impl Found {
+    /// Puts a leaf behind the others.
+    #[inline(never)]
+    pub fn add_leaf(&mut self, positive: bool, formula: Tm) -> Result<(), AllocError>
+        ensures { OnOk result (findings_of self.new ≡ with_more (findings_of self.old) ((positive, plain_term formula) ∷ []) [] []) }
+    {
+        self.leaves.push(Leaf { positive, formula })?;
+        Ok(())
+    }
+
+    /// Puts the variable that a node selects behind the others, and tells whether it wasn't taken.
+    #[inline(never)]
+    pub fn select(
+        &mut self,
+        alloc: Global,
+        node: u64,
+        name: &Name,
+        ty: &Ty,
+    ) -> Result<bool, AllocError>
+        ensures new { IfOk result (λ new. new ≡ true → (Contains self.old.taken (name.now, plain_type ty.now) → ⊥) × (findings_of self.new ≡ with_more (findings_of self.old) [] (record { node = node; variable = (name.now, plain_type ty.now) } ∷ []) ((name.now, plain_type ty.now) ∷ []))) }
+        ensures taken { IfOk result (λ new. new ≡ false → Contains self.old.taken (name.now, plain_type ty.now)) }
+    {
+        if !self.taken.insert(name, ty)? {
+            return Ok(false);
+        }
+        let name = name.copy(alloc)?;
+        let ty = ty.copy(alloc)?;
+        self.selections.push(Selected { node, name, ty })?;
+        Ok(true)
+    }
+}
