@@ -94,7 +94,7 @@ fn quantifiers(rt: HostRuntime) -> Result<(), Fail> {
         (
             SWAPPED,
             "(IMPLIES (EXP ((V b I) (SEL c LEAF))) (EXP ((V c I) (SEL b LEAF)))) ())",
-            "CYCLE 1 2",
+            "CYCLE 2 1",
         ),
     ] {
         assert_eq!(rt; found(alloc, front, rest)?.as_str(), line);
@@ -102,19 +102,33 @@ fn quantifiers(rt: HostRuntime) -> Result<(), Fail> {
     Ok(())
 }
 
+/// What the accepted proof of a text holds, as a line.
+fn held(alloc: Global, front: &str, rest: &str) -> Result<String, AllocError> {
+    let text = format!(in alloc; "{front} {rest}")?;
+    let Ok(proof) = read_proof(alloc, text.as_bytes()) else {
+        return String::from_str(alloc, "NO PROOF TEXT");
+    };
+    let Ok(accepted) = check(alloc, proof) else {
+        return String::from_str(alloc, "REJECTED");
+    };
+    let leaves = accepted.fitted().leaf_count();
+    let pairs = accepted.mating().len();
+    let ordered = accepted.order().len();
+    let text = accepted.into_text();
+    let kept = text.mating.len();
+    format!(in alloc; "{leaves} LEAVES {pairs} PAIRS {ordered} ORDERED {kept} KEPT")
+}
+
 #[test]
 fn an_accepted_proof_keeps_its_parts(rt: HostRuntime) -> Result<(), Fail> {
     let alloc = rt.alloc();
-    let text = format!(in alloc; "{MIDDLE} (OR LEAF (NOT LEAF)) ((1 2)))")?;
-    let proof = read_proof(alloc, text.as_bytes())
-        .ok()
-        .ok_or("no proof text")?;
-    let accepted = check(alloc, proof).ok().ok_or("no proof")?;
-    assert_eq!(rt; accepted.fitted().leaf_count(), 2);
-    assert_eq!(rt; accepted.mating().len(), 1);
-    assert_eq!(rt; accepted.order().len(), 0);
-    let proof = accepted.into_text();
-    assert_eq!(rt; proof.mating.len(), 1);
-    assert!(rt; check(alloc, proof).is_ok());
+    let line = held(alloc, MIDDLE, "(OR LEAF (NOT LEAF)) ((1 2)))")?;
+    assert_eq!(rt; line.as_str(), "2 LEAVES 1 PAIRS 0 ORDERED 1 KEPT");
+    let line = held(
+        alloc,
+        DRINKER,
+        "(EXP ((V FILL I) (SEL a1 (IMPLIES LEAF LEAF))) ((V a1 I) (SEL a2 (IMPLIES LEAF LEAF)))) ((2 3)))",
+    )?;
+    assert_eq!(rt; line.as_str(), "4 LEAVES 1 PAIRS 2 ORDERED 1 KEPT");
     Ok(())
 }
