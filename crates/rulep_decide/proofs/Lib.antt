@@ -1,0 +1,7 @@
+pub mod Adding
+pub mod Deciding
+pub mod Forcing
+pub mod Indexing
+pub mod Nodes
+pub mod Searching
+pub mod Tables
