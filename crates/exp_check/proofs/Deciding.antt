@@ -1,11 +1,10 @@
 -- What the steps of a check decide.
-use Rattle.std.proofs.Common.{◌≡◌, ◌≢◌, ℕ, ◌-◌, ◌<◌, ◌≤◌, List, Bool, length, refl, sym, ◌∙◌, ap, ap₂, subst, arith}
-use Rattle.std.specs.Prelude.{All, Option, Some, None, IsNone, slice_get}
+use Rattle.std.proofs.Common.{◌≡◌, ◌≢◌, ℕ, ◌-◌, ◌<◌, List, Bool, length, refl, sym, ◌∙◌, ap, ap₂, subst, arith}
+use Rattle.std.specs.Prelude.{All, Option, Some, None, IsNone}
 use Rattle.std.proofs.lemmas.List.Elements.{All-get_or}
 use Rattle.std.proofs.lemmas.Option.{slice_get-get_or}
 use Rattle.hol_terms.specs.Terms.{Term}
 use Rattle.hol_terms.specs.Typing.{IsFormula}
-use Rattle.expansion_tree.specs.Faults.{IsTree, IsFirstFault}
 use Rattle.expansion_tree.specs.Fitted.{FittedTree, FitsAs, IsFitted}
 use Rattle.expansion_tree.specs.Occurrences.{occurrences_of}
 use Rattle.expansion_tree.specs.Standing.{Standing, Selection, leaves, paths, selections}
@@ -18,7 +17,7 @@ use Rattle.dependency.specs.Dependencies.{Before, IsAcyclic}
 use Rattle.proof_text.specs.Texts.{Proof}
 use Rattle.exp_check.specs.Accepted.{AcceptedProof, IsAccepted, proof_of}
 use Rattle.exp_check.specs.Judged.{IsFirstFitFault, IsJudged, IsFirstJudged}
-use Rattle.exp_check.specs.Proofs.{IsProof, IsProofAs, IsMatedTree, IsFirstCheckFault}
+use Rattle.exp_check.specs.Proofs.{IsProof, IsFirstCheckFault}
 use Rattle.exp_check.specs.declared.faults.CheckFault.{CheckFault}
 use Rattle.exp_check.specs.declared.faults.CheckFault.TheVariants.{Memory, Fit, BadPair, Cycle, OpenPath}
 

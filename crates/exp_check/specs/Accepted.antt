@@ -1,5 +1,5 @@
 -- Expansion proofs as they are kept, with an order of their occurrences.
-use Rattle.std.specs.Prelude.{◌≡◌, ℕ, List, refl}
+use Rattle.std.specs.Prelude.{ℕ, List, refl}
 use Rattle.std.specs.Coded.{coded_list, coded×, coded_ℕ}
 use package.base.Stored.{Coded}
 use denote.Struct.Codes.{code_by}

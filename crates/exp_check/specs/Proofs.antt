@@ -1,5 +1,5 @@
 -- Expansion proofs, and what keeps a formula, a tree and a mating from being one. After Miller 1987 and Andrews 1981.
-use Rattle.std.specs.Prelude.{◌≡◌, ℕ, List, Some, All, nat_eq}
+use Rattle.std.specs.Prelude.{◌≡◌, Some, All, nat_eq}
 use Rattle.std.specs.List.{IsDistinct}
 use Rattle.hol_terms.specs.Typing.{IsFormula}
 use Rattle.expansion_tree.specs.Faults.{IsTree, IsFirstFault}

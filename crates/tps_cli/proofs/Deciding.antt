@@ -1,6 +1,6 @@
 -- What the steps of a check decide.
-use Rattle.std.proofs.Common.{◌≡◌, ◌↔◌, ℕ, ◌≤◌, length, List, Bool, true, false, IsTrue, refl, sym, subst}
-use Rattle.std.specs.Prelude.{All, Option, Some, None}
+use Rattle.std.proofs.Common.{◌≡◌, ◌↔◌, ℕ, ◌≤◌, length, List, Bool, true, false, IsTrue, subst}
+use Rattle.std.specs.Prelude.{Option, Some, None}
 use Rattle.proof_text.specs.Texts.{Proof, IsProofText}
 use Rattle.exp_check.specs.Proofs.{IsProof}
 use Rattle.tps_io.specs.Stream.{TakesAll}
