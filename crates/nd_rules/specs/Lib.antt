@@ -1,0 +1,7 @@
+pub mod Codes
+pub mod Converting
+pub mod Lines
+pub mod Outlines
+pub mod Resting
+pub mod Rules
+pub mod Variables
