@@ -1,15 +1,15 @@
 //! Terms judged together with their forms: the first loose index, and the first application whose parts don't fit.
 
-ghost use Rattle.std.specs.Prelude.{◌≡◌, ◌≢◌, ◌↔◌, ◌∷◌, [], IfErr, IfOk, IsTrue, drop, slice_get};
-ghost use Rattle.std.specs.Option.{option_map};
+ghost use Rattle.std.specs.Prelude.{◌≡◌, ◌≢◌, ◌↔◌, [], IfErr, IfOk, IsTrue};
 ghost use Rattle.hol_terms.specs.Terms.{SimpleType, plain_term, plain_type};
 ghost use Rattle.hol_terms.specs.Typing.{Typed};
 ghost use Rattle.core_text.specs.Judged.{Answers, applied_at, judged_at, loose_index_at, typing_at, with_fault};
-ghost use Rattle.core_text.specs.Known.{known_type, types_around};
+ghost use Rattle.core_text.specs.Known.{known_type};
 ghost use Rattle.core_text.specs.Placed.{placed};
 
 use crate::faults::TextFault;
 use crate::sexps::Sexp;
+use hol_terms::scopes::Scope;
 use hol_terms::terms::Tm;
 use hol_terms::types::Ty;
 use std::alloc::{AllocError, Global};
@@ -37,41 +37,6 @@ fn loose_index(around: u64, t: &Tm, s: &Sexp) -> Result<Option<u64>, AllocError>
                 return Err(AllocError);
             };
             loose_index(more, body, s.third())
-        }
-    }
-}
-
-/// The types of the abstractions around a part of a term, the innermost last.
-#[derive(Drop)]
-struct Around<'a> {
-    types: Vec<&'a Ty>,
-}
-
-impl<'a> Around<'a> {
-    /// One abstraction more.
-    fn enter(&mut self, ty: &'a Ty) -> Result<(), AllocError>
-        ensures { IfOk result (λ _. types_around self.new ≡ plain_type ty.now ∷ types_around self.old) }
-    {
-        self.types.push(ty)?;
-        Ok(())
-    }
-
-    /// One abstraction less.
-    fn leave(&mut self)
-        ensures { types_around self.new ≡ drop 1 (types_around self.old) }
-    {
-        let _innermost = self.types.pop();
-    }
-
-    /// The type of a bound index, `None` exactly where there are not that many abstractions.
-    fn at(&self, index: u64) -> Option<&'a Ty>
-        ensures { option_map (λ ty. plain_type ty.now) result ≡ slice_get (types_around self.now) index }
-    {
-        let count = self.types.len() as u64;
-        if index < count {
-            Some(self.types[(count - 1 - index) as usize])
-        } else {
-            None
         }
     }
 }
@@ -158,29 +123,29 @@ fn applied<'a>(
 /// The type of a part of a term.
 fn typing<'a>(
     alloc: Global,
-    around: &mut Around<'a>,
+    scope: &mut Scope<'a>,
     t: &'a Tm,
     s: &Sexp,
 ) -> Result<Known<'a>, TextFault>
-    ensures answer { Answers known_type result (with_fault (λ k. TextFault.IllTyped k) (typing_at (types_around around.old) (plain_term t.now) (placed s.now))) }
-    ensures around { IfOk result (λ _. types_around around.new ≡ types_around around.old) }
+    ensures answer { Answers known_type result (with_fault (λ k. TextFault.IllTyped k) (typing_at scope.old (plain_term t.now) (placed s.now))) }
+    ensures scope { IfOk result (λ _. scope.new ≡ scope.old) }
 {
     match t {
         Tm::Free(_, ty) => Ok(Known::Lent(ty)),
-        Tm::Bound(index) => match around.at(*index) {
+        Tm::Bound(index) => match scope.at(*index) {
             Some(ty) => Ok(Known::Lent(ty)),
             None => Err(TextFault::IllTyped(s.place())),
         },
         Tm::Con(con) => Ok(Known::Made(con.type_of(alloc)?)),
         Tm::App(function, argument) => {
-            let function = typing(alloc, around, function, s.second())?;
-            let argument = typing(alloc, around, argument, s.third())?;
+            let function = typing(alloc, scope, function, s.second())?;
+            let argument = typing(alloc, scope, argument, s.third())?;
             applied(function, &argument, s.place())
         }
         Tm::Lam(ty, body) => {
-            around.enter(ty)?;
-            let result_type = typing(alloc, around, body, s.third())?;
-            around.leave();
+            scope.enter(ty)?;
+            let result_type = typing(alloc, scope, body, s.third())?;
+            scope.leave();
             Ok(Known::Over(ty, Box::new(alloc, result_type)?))
         }
     }
@@ -193,10 +158,8 @@ fn judged(alloc: Global, t: &Tm, s: &Sexp) -> Result<Ty, TextFault>
     if let Some(place) = loose_index(0, t, s)? {
         return Err(TextFault::LooseIndex(place));
     }
-    let mut around = Around {
-        types: Vec::new(alloc),
-    };
-    let ty = typing(alloc, &mut around, t, s)?;
+    let mut scope = Scope::new(alloc);
+    let ty = typing(alloc, &mut scope, t, s)?;
     Ok(ty.own(alloc)?)
 }
 
