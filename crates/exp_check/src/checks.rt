@@ -8,7 +8,7 @@ ghost use Rattle.expansion_tree.specs.Fitted.{IsFitted};
 ghost use Rattle.expansion_tree.specs.Occurrences.{occurrences_of};
 ghost use Rattle.expansion_tree.specs.Trees.{plain_tree};
 ghost use Rattle.vertical_paths.specs.Matings.{Spans};
-ghost use Rattle.proof_text.specs.Texts.{IsTyped, plain_proof};
+ghost use Rattle.proof_text.specs.Texts.{plain_proof};
 ghost use Rattle.exp_check.specs.Accepted.{IsAccepted, proof_of};
 ghost use Rattle.exp_check.specs.Judged.{IsFirstFitFault, IsFirstJudged, IsJudged, IsOrdersFault, IsPathsFault};
 ghost use Rattle.exp_check.specs.Proofs.{IsFirstCheckFault, IsProof};
@@ -80,7 +80,7 @@ fn fitted(alloc: Global, formula: Tm, tree: Tree) -> Result<Fitted, CheckFault>
 /// Checks that a formula, a tree and a mating are an expansion proof (Miller 1987), and keeps exactly these. Of the faults `Fit` comes
 /// first, then `BadPair`, then `Cycle`, then `OpenPath`. A refusal drops the text.
 pub fn check(alloc: Global, text: ProofText) -> Result<Accepted, CheckFault>
-    requires { IsTyped (plain_proof text) }
+    requires { IsFormula (plain_term text.formula) }
     ensures accepted { IfOk result (λ a. IsAccepted a × (proof_of a ≡ plain_proof text)) }
     ensures fault { IfErr result (λ e. IsFirstCheckFault (plain_proof text) e) }
     ensures refused { IfErr result (λ e. e ≢ CheckFault.Memory → IsProof (plain_proof text) → ⊥) }

@@ -9,11 +9,11 @@ ghost use Rattle.nd_rules.specs.Rules.{HasNewVariable, HasNormals, HasTypedTerm,
 use crate::converting::{Normals, different_normals};
 use crate::faults::RuleFault;
 use crate::lines::{Line, Why};
-use crate::naming::{cited, first_late, first_missing, line_at};
+use crate::naming::{cited, first_late, first_missing, line_at, with_more};
 use crate::outlines::Outline;
 use crate::resting::has_hypotheses;
 use crate::shapes::{existential_body, has_shape, has_type, universal_body};
-use crate::variables::{variable_fault, with_hypotheses};
+use crate::variables::variable_fault;
 use hol_terms::lists::Terms;
 use hol_terms::terms::Tm;
 use rulep_decide::premises::Premises;
@@ -26,7 +26,7 @@ fn names_earlier(alloc: Global, outline: &Outline, line: &Line) -> Result<(), Ru
     ensures fault { IfErr result (λ e. IsFirstRefusal outline.now (plain_line line.now) e) }
 {
     let numbers = cited(alloc, &line.why)?;
-    let numbers = with_hypotheses(numbers, line)?;
+    let numbers = with_more(numbers, line.hyps.as_slice())?;
     if let Some(number) = first_missing(outline, line, numbers.as_slice()) {
         return Err(RuleFault::NoLine(number));
     }

@@ -1,6 +1,6 @@
 //! The lines that a line names: whether they are there, and have smaller numbers.
 
-ghost use Rattle.std.specs.Prelude.{◌≡◌, IfOk, IfSome, find};
+ghost use Rattle.std.specs.Prelude.{◌≡◌, ◌++◌, IfOk, IfSome, find};
 ghost use Rattle.std.specs.Option.{option_map};
 ghost use Rattle.hol_terms.specs.Terms.{plain_term};
 ghost use Rattle.hol_terms.specs.Typing.{IsFormula};
@@ -23,11 +23,11 @@ pub fn line_at<'a>(outline: &'a Outline, line: &'a Line, number: u64) -> Option<
     outline.find(number)
 }
 
-/// The list of these numbers.
-fn numbers_of(alloc: Global, items: &[u64]) -> Result<Numbers, AllocError>
-    ensures { IfOk result (λ numbers. numbers ≡ items.now) }
+/// The numbers, with these behind them.
+pub fn with_more(numbers: Numbers, items: &[u64]) -> Result<Numbers, AllocError>
+    ensures { IfOk result (λ more. more ≡ numbers ++ items.now) }
 {
-    let mut numbers = Numbers::new(alloc);
+    let mut numbers = numbers;
     for n in items {
         numbers.push(*n)?;
     }
@@ -58,7 +58,7 @@ pub fn cited(alloc: Global, why: &Why) -> Result<Numbers, AllocError>
             numbers.push(*hyp)?;
             numbers.push(*src)?;
         }
-        Why::Rulep { src } => return numbers_of(alloc, src.as_slice()),
+        Why::Rulep { src } => return with_more(numbers, src.as_slice()),
     }
     Ok(numbers)
 }

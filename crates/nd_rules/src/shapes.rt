@@ -11,7 +11,7 @@ ghost use Rattle.nd_rules.specs.Rules.{HasShape, existence, implies, universal};
 use crate::lines::{Line, Why};
 use crate::naming::line_at;
 use crate::outlines::Outline;
-use hol_terms::indices::replaced;
+use hol_terms::indices::instantiate;
 use hol_terms::names::Name;
 use hol_terms::terms::{Con, Tm, same};
 use hol_terms::types::Ty;
@@ -91,17 +91,8 @@ fn is_implication(formula: &Tm, left: &Tm, right: &Tm) -> bool
 fn is_instance(alloc: Global, body: &Tm, term: &Tm, formula: &Tm) -> Result<bool, AllocError>
     ensures { IfOk result (λ b. IsTrue b ↔ (plain_term formula.now ≡ instance_of (plain_term body.now) (plain_term term.now))) }
 {
-    let instance = replaced(alloc, 0, term, body)?;
+    let instance = instantiate(alloc, body, term)?;
     Ok(same(formula, &instance))
-}
-
-/// The variable of a name and a type.
-fn variable(alloc: Global, name: &Name, ty: &Ty) -> Result<Tm, AllocError>
-    ensures { IfOk result (λ t. plain_term t ≡ free name.now (plain_type ty.now)) }
-{
-    let name = name.copy(alloc)?;
-    let ty = ty.copy(alloc)?;
-    Ok(Tm::Free(name, ty))
 }
 
 /// Whether the body is that of the abstraction of the formula over the variable: the variable isn't free in it, and its instance with
@@ -118,7 +109,7 @@ fn is_body_over(
     if is_free(name, ty, body) {
         return Ok(false);
     }
-    let variable = variable(alloc, name, ty)?;
+    let variable = Tm::variable(alloc, name, ty)?;
     is_instance(alloc, body, &variable, formula)
 }
 
@@ -234,7 +225,7 @@ fn is_chosen(
     if !matches!(hyp.why, Why::Hyp) {
         return Ok(false);
     }
-    let variable = variable(alloc, name, ty)?;
+    let variable = Tm::variable(alloc, name, ty)?;
     is_instance(alloc, body, &variable, &hyp.formula)
 }
 

@@ -1,6 +1,6 @@
 //! The variable of a rule that generalizes or chooses, and the lines in which it may not be free.
 
-ghost use Rattle.std.specs.Prelude.{◌≡◌, ◌↔◌, ◌++◌, ℕ, All, IfNone, IfOk, IfSome, IsTrue, List, MatchOption};
+ghost use Rattle.std.specs.Prelude.{◌≡◌, ◌↔◌, ℕ, All, IfNone, IfOk, IfSome, IsTrue, List, MatchOption};
 ghost use Rattle.hol_terms.specs.FreeVariables.{IsFree};
 ghost use Rattle.hol_terms.specs.Terms.{SimpleType, plain_type};
 ghost use Rattle.nd_rules.specs.Lines.{plain_line, plain_why};
@@ -8,7 +8,7 @@ ghost use Rattle.nd_rules.specs.Rules.{HasNewVariable, IsFirstFree, IsRuleVariab
 ghost use Rattle.nd_rules.specs.Variables.{IsFirstOf, IsFreeAt};
 
 use crate::lines::{Line, Why};
-use crate::naming::line_at;
+use crate::naming::{line_at, with_more};
 use crate::outlines::Outline;
 use crate::shapes::{existential_body, universal_body};
 use hol_terms::lists::Numbers;
@@ -63,7 +63,7 @@ fn barred(alloc: Global, line: &Line) -> Result<Numbers, AllocError>
     ensures { IfOk result (λ numbers. numbers ≡ barred_by (plain_line line.now) (plain_why line.now.why)) }
 {
     match &line.why {
-        Why::Ugen { src: _, var: _ } => with_hypotheses(Numbers::new(alloc), line),
+        Why::Ugen { src: _, var: _ } => with_more(Numbers::new(alloc), line.hyps.as_slice()),
         Why::Rulec {
             some_line,
             hyp: _,
@@ -73,21 +73,10 @@ fn barred(alloc: Global, line: &Line) -> Result<Numbers, AllocError>
             let mut numbers = Numbers::new(alloc);
             numbers.push(*some_line)?;
             numbers.push(line.number)?;
-            with_hypotheses(numbers, line)
+            with_more(numbers, line.hyps.as_slice())
         }
         _ => Ok(Numbers::new(alloc)),
     }
-}
-
-/// The numbers with those of the line's hypotheses behind them.
-pub fn with_hypotheses(numbers: Numbers, line: &Line) -> Result<Numbers, AllocError>
-    ensures { IfOk result (λ more. more ≡ numbers ++ line.now.hyps) }
-{
-    let mut numbers = numbers;
-    for n in line.hyps.as_slice() {
-        numbers.push(*n)?;
-    }
-    Ok(numbers)
 }
 
 /// Whether the variable is free in the line of a number.

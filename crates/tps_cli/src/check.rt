@@ -1,8 +1,10 @@
 //! The command `check`.
 
 ghost use Rattle.std.specs.Prelude.{◌≡◌, ◌↔◌, IfOk, IfSome, IsTrue, MatchOption};
+ghost use Rattle.hol_terms.specs.Terms.{plain_term};
+ghost use Rattle.hol_terms.specs.Typing.{IsFormula};
 ghost use Rattle.exp_check.specs.Proofs.{IsProof};
-ghost use Rattle.proof_text.specs.Texts.{IsProofText, IsTyped, Proof, plain_proof};
+ghost use Rattle.proof_text.specs.Texts.{IsProofText, Proof, plain_proof};
 ghost use Rattle.tps_cli.specs.Results.{Answers, output, status_of};
 ghost use Rattle.tps_cli.specs.declared.command.Command.TheVariants.{Check};
 
@@ -37,7 +39,7 @@ fn read(alloc: Global, bytes: &[u8]) -> Result<Option<ProofText>, AllocError>
 
 /// Whether the proof text is an expansion proof.
 fn is_proof(alloc: Global, text: ProofText) -> Result<bool, AllocError>
-    requires { IsTyped (plain_proof text) }
+    requires { IsFormula (plain_term text.formula) }
     ensures { IfOk result (λ yes. IsTrue yes ↔ IsProof (plain_proof text)) }
 {
     match check_proof(alloc, text) {
