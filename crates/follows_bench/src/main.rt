@@ -2,6 +2,9 @@
 //! or `follows_bench pigeons N`, of N pigeons in one hole less.
 #![tactic(auto)]
 
+ghost use Rattle.std.specs.Prelude.{◌≡◌, ◌∷◌, IfOk, decimal};
+ghost use Rattle.hol_terms.specs.Terms.{application, constant, free, plain_constant, plain_term, truth_type};
+
 use hol_terms::names::Name;
 use hol_terms::terms::{Con, Tm};
 use hol_terms::types::Ty;
@@ -14,12 +17,16 @@ use std::env;
 const MOST: u64 = 100_000;
 
 /// The propositional variable of that number.
-fn letter(alloc: Global, n: u64) -> anyhow::Result<Tm> {
+fn letter(alloc: Global, n: u64) -> anyhow::Result<Tm>
+    ensures { IfOk result (λ t. plain_term t ≡ free (97 ∷ decimal n) truth_type) }
+{
     Ok(Tm::Free(Name::numbered(alloc, n)?, Ty::truth()))
 }
 
 /// The two formulas with that constant between them.
-fn joined(alloc: Global, con: Con, first: Tm, second: Tm) -> anyhow::Result<Tm> {
+fn joined(alloc: Global, con: Con, first: Tm, second: Tm) -> anyhow::Result<Tm>
+    ensures { IfOk result (λ t. plain_term t ≡ application (application (constant (plain_constant con)) (plain_term first)) (plain_term second)) }
+{
     let half = Tm::app(alloc, Tm::Con(con), first)?;
     Ok(Tm::app(alloc, half, second)?)
 }

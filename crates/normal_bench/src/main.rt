@@ -1,12 +1,15 @@
 //! Normalizes a term without redexes, for timing: `normal_bench LEVELS`, of 2 to the LEVELS times two heads less one.
 #![tactic(auto)]
 
+ghost use Rattle.std.specs.Prelude.{◌≡◌, ◌≤◌, [], IfOk};
+ghost use Rattle.hol_terms.specs.Terms.{base_type, plain_term, plain_type};
+ghost use Rattle.hol_terms.specs.Typing.{Typed};
+
 use hol_conv::normal::normal;
 use hol_terms::letters::Letter;
 use hol_terms::names::Name;
 use hol_terms::terms::{Tm, copy, same};
 use hol_terms::types::Ty;
-use hol_terms::typing::type_of;
 use std::alloc::Global;
 use std::env;
 
@@ -14,7 +17,9 @@ use std::env;
 const MOST: u32 = 24;
 
 /// The number that the first word after the program's name writes, or 0.
-fn levels(rt: &HostRuntime) -> anyhow::Result<u32> {
+fn levels(rt: &HostRuntime) -> anyhow::Result<u32>
+    ensures { IfOk result (λ levels. levels ≤ 24) }
+{
     let mut words = env::args(rt)?.skip(1);
     match words.next() {
         Some(word) => Ok(word.as_str().parse().unwrap_or(0).min(MOST)),
@@ -23,15 +28,19 @@ fn levels(rt: &HostRuntime) -> anyhow::Result<u32> {
 }
 
 /// The type of individuals.
-fn individuals() -> Ty {
+fn individuals() -> Ty
+    ensures { plain_type result ≡ base_type 73 }
+{
     match Letter::new(b'I') {
         Some(letter) => Ty::Base(letter),
-        None => Ty::truth(),
+        None => unreachable!(),
     }
 }
 
 /// The balanced term over h, of type III, and c, of type I, with so many levels.
-fn balanced(alloc: Global, levels: u32) -> anyhow::Result<Tm> {
+fn balanced(alloc: Global, levels: u32) -> anyhow::Result<Tm>
+    ensures { IfOk result (λ t. Typed [] (plain_term t) (base_type 73)) }
+{
     let half = Ty::fun(alloc, individuals(), individuals())?;
     let binary = Ty::fun(alloc, half, individuals())?;
     let h = Tm::Free(Name::numbered(alloc, 1)?, binary);
@@ -46,16 +55,14 @@ fn balanced(alloc: Global, levels: u32) -> anyhow::Result<Tm> {
 fn main(rt: HostRuntime) -> anyhow::Result<()> {
     let alloc = rt.alloc();
     let t = balanced(alloc, levels(&rt)?)?;
-    if type_of(alloc, &t)?.is_some() {
-        let n = normal(alloc, &t)?;
-        println!(rt;
-            "{}",
-            if same(&n, &t) {
-                "normal already"
-            } else {
-                "not normal"
-            }
-        )?;
-    }
+    let n = normal(alloc, &t)?;
+    println!(rt;
+        "{}",
+        if same(&n, &t) {
+            "normal already"
+        } else {
+            "not normal"
+        }
+    )?;
     Ok(())
 }
