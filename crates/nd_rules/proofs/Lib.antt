@@ -5,3 +5,4 @@ pub mod Types
 pub mod Refusals
 pub mod Rests
 pub mod Firsts
+pub mod Staying

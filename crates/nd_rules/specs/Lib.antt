@@ -1,5 +1,6 @@
 pub mod Codes
 pub mod Converting
+pub mod Laws
 pub mod Lines
 pub mod Outlines
 pub mod Resting

@@ -4,6 +4,7 @@
 pub mod converting;
 pub mod faults;
 pub mod justifying;
+pub mod laws;
 pub mod lines;
 pub mod naming;
 pub mod outlines;

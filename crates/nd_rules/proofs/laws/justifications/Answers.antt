@@ -1,0 +1,11 @@
+use Rattle.nd_rules.proofs.Staying.{stays, stays_under_later, stays_under_reasons}
+use Rattle.nd_rules.proofs.laws.justifications.Goals as goal
+
+pub returns-clause-same : goal.returns-clause-same
+returns-clause-same c = stays
+
+pub returns-clause-later : goal.returns-clause-later
+returns-clause-later c = stays_under_later
+
+pub returns-clause-reasons : goal.returns-clause-reasons
+returns-clause-reasons c = stays_under_reasons
