@@ -55,8 +55,11 @@ line_read lines line n i rising e read =
     sym (found_line (map plain_line lines) n i rising e ∙ slice_get-map plain_line lines i ∙ ap (option_map plain_line) there)
 
 -- which is well-formed
+pub formed_at : (lines : List Line) (line : Line) (i : ℕ) → IsOutline (map plain_line lines) → i < length (map plain_line lines) → line ≡ get_or lines i line → IsWellFormed (plain_line line)
+formed_at lines line i h within read =
+    let there : get_or (map plain_line lines) i (plain_line line) ≡ plain_line line = get_or-map plain_line lines i line (plain_line line) (omega (arith, within, length-map lines plain_line)) ∙ ap plain_line (sym read) in
+    subst IsWellFormed there (All-get_or IsWellFormed (map plain_line lines) i (plain_line line) within h.formed)
+
 pub formed_read : (lines : List Line) (line : Line) (n i : ℕ) → IsOutline (map plain_line lines) → slice_get (numbers_of (map plain_line lines)) i ≡ Some n → line ≡ get_or lines i line → IsWellFormed (plain_line line)
 formed_read lines line n i h e read =
-    let within : i < length lines = omega (arith, (index_at (numbers_of (map plain_line lines)) i n e).0, length-map (map plain_line lines) (λ (l : DeductionLine). l.number), length-map lines plain_line) in
-    let there : get_or (map plain_line lines) i (plain_line line) ≡ plain_line line = get_or-map plain_line lines i line (plain_line line) within ∙ ap plain_line (sym read) in
-    subst IsWellFormed there (All-get_or IsWellFormed (map plain_line lines) i (plain_line line) (omega (arith, within, length-map lines plain_line)) h.formed)
+    formed_at lines line i h (omega (arith, (index_at (numbers_of (map plain_line lines)) i n e).0, length-map (map plain_line lines) (λ (l : DeductionLine). l.number))) read

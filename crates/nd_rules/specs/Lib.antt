@@ -6,3 +6,4 @@ pub mod Outlines
 pub mod Resting
 pub mod Rules
 pub mod Variables
+pub mod Words

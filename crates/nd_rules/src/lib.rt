@@ -13,3 +13,4 @@ pub mod shapes;
 #[cfg(test)]
 mod tests;
 pub mod variables;
+pub mod words;

@@ -62,7 +62,8 @@ impl Outline {
     /// The line at a place, counted from 0.
     pub fn at(&self, i: u64) -> &Line
         requires { i < length self.now }
-        ensures { slice_get self.now i ≡ Some (plain_line result.now) }
+        ensures line { slice_get self.now i ≡ Some (plain_line result.now) }
+        ensures formed { IsWellFormed (plain_line result.now) }
     {
         &self.lines[i as usize]
     }
