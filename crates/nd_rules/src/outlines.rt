@@ -54,7 +54,8 @@ impl Outline {
 
     /// How many lines there are.
     pub fn len(&self) -> u64
-        ensures { result ≡ length self.now }
+        ensures count { result ≡ length self.now }
+        ensures outline { IsOutline self.now }
     {
         self.lines.len() as u64
     }
