@@ -1,7 +1,9 @@
 pub mod Judged
+pub mod Kept
 pub mod Lists
 pub mod Outlined
 pub mod Rises
 pub mod Steps
 pub mod Table
 pub mod Whole
+pub mod Written

@@ -3,5 +3,7 @@
 
 pub mod judgements;
 pub mod justifications;
+pub mod laws;
 pub mod lines;
 pub mod texts;
+pub mod writers;
