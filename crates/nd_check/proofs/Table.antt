@@ -167,8 +167,13 @@ why_spelled (choice x k d a) p e h =
     let one = more_shape whole.members (word_form (codes "RULEC")) (more_forms (number_form x) (more_forms (number_form k) (more_forms (number_form d) (more_forms (word_form (encode_utf8_all a)) no_forms)))) whole.is_members in
     let head = word_shape one.first (codes "RULEC") one.is_first in
     let four = four_shape one.rest (number_form x) (number_form k) (number_form d) (word_form (encode_utf8_all a)) one.is_rest in
-    rw (whole.is ∙ ap (λ ps. list_at ps whole.place) (one.is ∙ ap (λ x. more_at x one.rest) head.1 ∙ ap (λ ps. more_at (word_at (codes "RULEC") head.0) ps) four.is),
-      number_spelled x four.first four.is_first, number_spelled k four.second four.is_second, number_spelled d four.third four.is_third, name_spelled a four.fourth four.is_fourth h) refl
+    rw (
+      whole.is ∙ ap (λ ps. list_at ps whole.place) (one.is ∙ ap (λ x. more_at x one.rest) head.1 ∙ ap (λ ps. more_at (word_at (codes "RULEC") head.0) ps) four.is),
+      number_spelled x four.first four.is_first,
+      number_spelled k four.second four.is_second,
+      number_spelled d four.third four.is_third,
+      name_spelled a four.fourth four.is_fourth h,
+    ) refl
 why_spelled (conversion d) p e h =
     let shape = pair_shape p (word_form (codes "LAMBDA")) (number_form d) e in
     let head = word_shape shape.first (codes "LAMBDA") shape.is_first in
@@ -222,8 +227,13 @@ line_spelled : (last : Option ℕ) (l : DeductionLine) (p : Placed) → IsFormOf
 line_spelled last l p h =
     let whole = list_shape p (more_forms (number_form l.number) (more_forms (list_form (number_forms l.hypotheses)) (more_forms (term_form l.formula) (more_forms (why_form l.why) no_forms)))) h.spelled in
     let four = four_shape whole.members (number_form l.number) (list_form (number_forms l.hypotheses)) (term_form l.formula) (why_form l.why) whole.is_members in
-    rw (whole.is ∙ ap (λ ps. list_at ps whole.place) four.is, above_spelled last four.first l.number four.is_first h.above, hypotheses_spelled l.hypotheses four.second four.is_second h.rising,
-      term_spelled l.formula four.third four.is_third h.names.0, why_spelled l.why four.fourth four.is_fourth h.names.1) refl
+    rw (
+      whole.is ∙ ap (λ ps. list_at ps whole.place) four.is,
+      above_spelled last four.first l.number four.is_first h.above,
+      hypotheses_spelled l.hypotheses four.second four.is_second h.rising,
+      term_spelled l.formula four.third four.is_third h.names.0,
+      why_spelled l.why four.fourth four.is_fourth h.names.1,
+    ) refl
 
 -- the hypotheses of each line rise
 abbrev HypothesesRise : List DeductionLine → Type 0
@@ -261,8 +271,10 @@ lines_spelled last (l ∷ ls) (more_at p ps) h =
     let e = h.spelled in
     let first : form p ≡ line_form l = cc in
     let rest : forms ps ≡ line_forms ls = cc in
-    rw (line_spelled last l p (record { spelled = first; names = h.names.0; above = h.above.0; rising = h.rising.0 }),
-      lines_spelled (Some l.number) ls ps (record { spelled = rest; names = h.names.1; above = h.above.1; rising = h.rising.1 })) refl
+    rw (
+      line_spelled last l p (record { spelled = first; names = h.names.0; above = h.above.0; rising = h.rising.0 }),
+      lines_spelled (Some l.number) ls ps (record { spelled = rest; names = h.names.1; above = h.above.1; rising = h.rising.1 }),
+    ) refl
 
 -- lines that were read and judged are an outline, and those of an outline are judged so
 formed_line : (ls : List DeductionLine) → HypothesesRise ls → AllByRecursion IsTypedLine ls → AllByRecursion IsWellFormed ls

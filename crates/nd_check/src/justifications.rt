@@ -121,12 +121,7 @@ fn read_choice(
 }
 
 /// The justification of a word, with what follows it; the rule of assignments is none.
-fn read_rule(
-    alloc: Global,
-    word: &[u8],
-    members: &Sexps,
-    place: u64,
-) -> Result<Why, TextFault>
+fn read_rule(alloc: Global, word: &[u8], members: &Sexps, place: u64) -> Result<Why, TextFault>
     ensures { Gives plain_why result (rule_at word.now (placed_all members.now) place) }
 {
     let Sexps::More(first, rest) = members else {

@@ -123,3 +123,6 @@ pub fn read_derivation(alloc: Global, bytes: &[u8]) -> Result<Outline, TextFault
         Err(fault) => Err(fault),
     }
 }
+
+#[cfg(test)]
+mod tests;
