@@ -1,1 +1,10 @@
 pub mod Finishing
+pub mod Judged
+pub mod Kept
+pub mod Lists
+pub mod Outlined
+pub mod Rises
+pub mod Steps
+pub mod Table
+pub mod Whole
+pub mod Written

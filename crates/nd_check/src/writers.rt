@@ -1,0 +1,184 @@
+//! Writes derivation texts.
+
+ghost use Rattle.std.specs.Prelude.{◌≡◌, ◌++◌, ◌∷◌, ◌<◌, ◌≤◌, ◌^◌, [], IfOk, decimal, length};
+ghost use Rattle.hol_terms.specs.Names.{IsName};
+ghost use Rattle.hol_terms.specs.Terms.{plain_term};
+ghost use Rattle.core_text.specs.CoreForms.{HasNames, term_form, triple_form};
+ghost use Rattle.core_text.specs.Forms.{list_form, nesting, number_form, word_form};
+ghost use Rattle.core_text.specs.Written.{written, written_others};
+ghost use Rattle.nd_rules.specs.Lines.{cited, generalization, plain_line, plain_why};
+ghost use Rattle.nd_rules.specs.Outlines.{IsOutline};
+ghost use Rattle.nd_check.specs.Forms.{derivation_form, line_form, line_forms, number_forms, why_form};
+ghost use Rattle.nd_check.specs.Texts.{AreNumerals, IsDerivationText, LineHasNames, LineHasNumerals, LinesHaveNames, LinesHaveNumerals, WhyHasNames};
+
+use core_text::writers::{append_name, append_number, append_term};
+use hol_terms::lists::{Hyps, Text};
+use hol_terms::names::Name;
+use hol_terms::terms::Tm;
+use nd_rules::lines::{Line, Why};
+use nd_rules::outlines::Outline;
+use std::alloc::{AllocError, Global};
+
+/// Adds numbers at the end of the text, each behind a space.
+fn append_numbers(alloc: Global, out: &mut Text, numbers: &[u64]) -> Result<(), AllocError>
+    ensures numerals { IfOk result (λ _. AreNumerals numbers.now) }
+    ensures text { IfOk result (λ _. out.new ≡ out.old ++ written_others (number_forms numbers.now)) }
+{
+    let mut rest = numbers;
+    while let [number, more @ ..] = rest {
+        out.push(b' ')?;
+        append_number(alloc, out, *number)?;
+        rest = more;
+    }
+    Ok(())
+}
+
+/// Adds hypotheses at the end of the text.
+fn append_hypotheses(alloc: Global, out: &mut Text, hyps: &Hyps) -> Result<(), AllocError>
+    ensures numerals { IfOk result (λ _. AreNumerals hyps.now) }
+    ensures text { IfOk result (λ _. out.new ≡ out.old ++ written (list_form (number_forms hyps.now))) }
+{
+    out.push(b'(')?;
+    if let [first, rest @ ..] = hyps.as_slice() {
+        append_number(alloc, out, *first)?;
+        append_numbers(alloc, out, rest)?;
+    }
+    out.push(b')')
+}
+
+/// Adds a rule of a number and a term at the end of the text.
+fn append_with_term(
+    alloc: Global,
+    out: &mut Text,
+    word: &[u8],
+    src: u64,
+    term: &Tm,
+) -> Result<(), AllocError>
+    ensures names { IfOk result (λ _. HasNames (plain_term term.now)) }
+    ensures text { IfOk result (λ _. out.new ≡ out.old ++ written (triple_form (word_form word.now) (number_form src) (term_form (plain_term term.now)))) }
+{
+    out.push(b'(')?;
+    out.append(word)?;
+    out.push(b' ')?;
+    append_number(alloc, out, src)?;
+    out.push(b' ')?;
+    append_term(alloc, out, term)?;
+    out.push(b')')?;
+    Ok(())
+}
+
+/// Adds a generalization at the end of the text.
+fn append_generalization(
+    alloc: Global,
+    out: &mut Text,
+    src: u64,
+    var: &Name,
+) -> Result<(), AllocError>
+    ensures names { IfOk result (λ _. IsName var.now) }
+    ensures text { IfOk result (λ _. out.new ≡ out.old ++ written (why_form (generalization src var.now))) }
+{
+    out.append(b"(UGEN ")?;
+    append_number(alloc, out, src)?;
+    out.push(b' ')?;
+    append_name(alloc, out, var)?;
+    out.push(b')')
+}
+
+/// Adds a justification at the end of the text.
+fn append_why(alloc: Global, out: &mut Text, why: &Why) -> Result<(), AllocError>
+    ensures names { IfOk result (λ _. WhyHasNames (plain_why why.now)) }
+    ensures numerals { IfOk result (λ _. AreNumerals (cited (plain_why why.now))) }
+    ensures text { IfOk result (λ _. out.new ≡ out.old ++ written (why_form (plain_why why.now))) }
+{
+    match why {
+        Why::Hyp => out.append(b"(P)"),
+        Why::Planned => out.append(b"(PLANNED)"),
+        Why::Deduct { src, hyp } => {
+            out.append(b"(DEDUCT")?;
+            append_numbers(alloc, out, &[*src, *hyp])?;
+            out.push(b')')
+        }
+        Why::Ui { src, term } => append_with_term(alloc, out, b"UI", *src, term),
+        Why::Ugen { src, var } => append_generalization(alloc, out, *src, var),
+        Why::Egen { src, term } => append_with_term(alloc, out, b"EGEN", *src, term),
+        Why::Rulec {
+            some_line,
+            hyp,
+            src,
+            var,
+        } => {
+            out.append(b"(RULEC")?;
+            append_numbers(alloc, out, &[*some_line, *hyp, *src])?;
+            out.push(b' ')?;
+            append_name(alloc, out, var)?;
+            out.push(b')')
+        }
+        Why::Lambda { src } => {
+            out.append(b"(LAMBDA")?;
+            append_numbers(alloc, out, &[*src])?;
+            out.push(b')')
+        }
+        Why::Rulep { src } => {
+            out.append(b"(RULEP")?;
+            append_numbers(alloc, out, src.as_slice())?;
+            out.push(b')')
+        }
+    }
+}
+
+/// Adds a line at the end of the text.
+fn append_line(alloc: Global, out: &mut Text, line: &Line) -> Result<(), AllocError>
+    ensures names { IfOk result (λ _. LineHasNames (plain_line line.now)) }
+    ensures numerals { IfOk result (λ _. LineHasNumerals (plain_line line.now)) }
+    ensures text { IfOk result (λ _. out.new ≡ out.old ++ written (line_form (plain_line line.now))) }
+{
+    out.push(b'(')?;
+    append_number(alloc, out, line.number)?;
+    out.push(b' ')?;
+    append_hypotheses(alloc, out, &line.hyps)?;
+    out.push(b' ')?;
+    append_term(alloc, out, &line.formula)?;
+    out.push(b' ')?;
+    append_why(alloc, out, &line.why)?;
+    out.push(b')')?;
+    Ok(())
+}
+
+/// Adds lines at the end of the text, each behind a space.
+fn append_lines(alloc: Global, out: &mut Text, outline: &Outline) -> Result<(), AllocError>
+    ensures names { IfOk result (λ _. LinesHaveNames outline.now) }
+    ensures numerals { IfOk result (λ _. LinesHaveNumerals outline.now) }
+    ensures text { IfOk result (λ _. out.new ≡ out.old ++ written_others (line_forms outline.now)) }
+{
+    for i in 0..outline.len() {
+        out.push(b' ')?;
+        append_line(alloc, out, outline.at(i))?;
+    }
+    Ok(())
+}
+
+/// Adds a derivation at the end of the text.
+fn append_derivation(alloc: Global, out: &mut Text, outline: &Outline) -> Result<(), AllocError>
+    ensures names { IfOk result (λ _. LinesHaveNames outline.now) }
+    ensures numerals { IfOk result (λ _. LinesHaveNumerals outline.now) }
+    ensures text { IfOk result (λ _. out.new ≡ out.old ++ written (derivation_form outline.now)) }
+{
+    out.append(b"(DERIVATION ")?;
+    append_number(alloc, out, 1)?;
+    append_lines(alloc, out, outline)?;
+    out.push(b')')?;
+    Ok(())
+}
+
+/// The text of an outline of at least one line, with one space between members, none behind `(` and none before `)`, and LF at the end.
+/// It is read again as that outline, within the limits of reading. An error comes only where memory is wanting.
+pub fn write_derivation(alloc: Global, outline: &Outline) -> Result<Text, AllocError>
+    requires { 0 < length outline.now }
+    ensures read { IsOutline outline.now → nesting (derivation_form outline.now) ≤ 5000 → IfOk result (λ text. IsDerivationText text outline.now) }
+    ensures text { IfOk result (λ text. text ≡ written (derivation_form outline.now) ++ 10 ∷ []) }
+{
+    let mut out = Text::new(alloc);
+    append_derivation(alloc, &mut out, outline)?;
+    out.push(b'\n')?;
+    Ok(out)
+}
