@@ -115,6 +115,5 @@ derives lines i l outline finished n read closed formula h =
     go (m ∷ ns) le = absurd (omega (arith, le))
 
 -- the last place of lines that there are
-pub last_place : (lines : List DeductionLine) (n : ℕ) → lines ≢ [] → n ≡ length lines → suc (n - 1) ≡ length lines
-last_place [] n some count = absurd (some refl)
-last_place (l ∷ lines) n some count = omega (arith, count)
+pub last_place : (lines : List DeductionLine) (n : ℕ) → 0 < length lines → n ≡ length lines → suc (n - 1) ≡ length lines
+last_place lines n some count = omega (arith, some, count)

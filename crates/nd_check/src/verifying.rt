@@ -1,6 +1,6 @@
 //! Whether an outline is a derivation.
 
-ghost use Rattle.std.specs.Prelude.{◌≡◌, ◌≢◌, ◌++◌, [], IfErr, OnOk, All, codes, decimal};
+ghost use Rattle.std.specs.Prelude.{◌≡◌, ◌≢◌, ◌<◌, ◌++◌, [], IfErr, OnOk, All, codes, decimal, length};
 ghost use Rattle.hol_terms.specs.Terms.{Term, plain_term};
 ghost use Rattle.hol_terms.specs.Typing.{IsFormula};
 ghost use Rattle.nd_rules.specs.Lines.{DeductionLine, plain_line};
@@ -72,7 +72,7 @@ fn are_finished(alloc: Global, outline: &Outline) -> Result<(), VerifyFault>
 /// justified, with its refusal, or is planned, whatever its rule would say; and where there is none, the last line, which has
 /// hypotheses.
 pub fn verify(alloc: Global, outline: &Outline) -> Result<(), VerifyFault>
-    requires { outline.now ≢ [] }
+    requires { 0 < length outline.now }
     ensures derivation { OnOk result ((formula : Term) → IsConclusion outline.now formula → IsDerivation outline.now formula) }
     ensures fault { IfErr result (λ e. IsFirstFault outline.now e) }
     ensures refused { IfErr result (λ e. e ≢ VerifyFault.Memory → (formula : Term) → IsDerivation outline.now formula → ⊥) }
