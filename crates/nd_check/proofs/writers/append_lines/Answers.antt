@@ -11,8 +11,8 @@ loop-i-preserved c =
     let l = plain_line c.at.result.now in
     record {
       text =
-          line_on c.loop-i.out c.push.new.self c.append_line.new.out (c.args.out.now ++ written_others (line_forms ls)) ls c.loop-i.i l c.at.ensures c.loop-i.invariant.text c.in_ok-push.ensures.ok
+          line_on c.loop-i.out c.push.new.self c.append_line.new.out (c.args.out.now ++ written_others (line_forms ls)) ls c.loop-i.i l c.at.ensures.line c.loop-i.invariant.text c.in_ok-push.ensures.ok
           c.in_ok-append_line.ensures.text;
-      names = names_on ls c.loop-i.i l c.at.ensures c.in_ok-append_line.ensures.names c.loop-i.invariant.names;
-      numerals = numerals_on ls c.loop-i.i l c.at.ensures c.in_ok-append_line.ensures.numerals c.loop-i.invariant.numerals;
+      names = names_on ls c.loop-i.i l c.at.ensures.line c.in_ok-append_line.ensures.names c.loop-i.invariant.names;
+      numerals = numerals_on ls c.loop-i.i l c.at.ensures.line c.in_ok-append_line.ensures.numerals c.loop-i.invariant.numerals;
     }
