@@ -91,9 +91,8 @@ pub fn judge_lines(alloc: Global, lines: &[Line], members: &Sexps) -> Result<(),
     ensures { Answers (λ done. tt) result (lines_judged (map plain_line lines.now) (placed_all members.now)) }
 {
     let mut found = None;
-    let mut rest = lines;
     let mut forms = members;
-    while let [line, more @ ..] = rest {
+    for line in lines {
         let Sexps::More(form, others) = forms else {
             return ended(found);
         };
@@ -102,7 +101,6 @@ pub fn judge_lines(alloc: Global, lines: &[Line], members: &Sexps) -> Result<(),
             Err(fault) => return Err(fault),
         };
         found = found.or(other(&ty, form.third().place()));
-        rest = more;
         forms = &**others;
     }
     ended(found)

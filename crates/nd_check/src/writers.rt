@@ -4,7 +4,7 @@ ghost use Rattle.std.specs.Prelude.{◌≡◌, ◌++◌, ◌∷◌, ◌<◌, ◌
 ghost use Rattle.hol_terms.specs.Names.{IsName};
 ghost use Rattle.hol_terms.specs.Terms.{plain_term};
 ghost use Rattle.core_text.specs.CoreForms.{HasNames, term_form, triple_form};
-ghost use Rattle.core_text.specs.Forms.{list_form, nesting, number_form, word_form};
+ghost use Rattle.core_text.specs.Forms.{list_form, more_forms, nesting, number_form, word_form};
 ghost use Rattle.core_text.specs.Written.{written, written_others};
 ghost use Rattle.nd_rules.specs.Lines.{cited, generalization, plain_line, plain_why};
 ghost use Rattle.nd_rules.specs.Outlines.{IsOutline};
@@ -24,11 +24,9 @@ fn append_numbers(alloc: Global, out: &mut Text, numbers: &[u64]) -> Result<(), 
     ensures numerals { IfOk result (λ _. AreNumerals numbers.now) }
     ensures text { IfOk result (λ _. out.new ≡ out.old ++ written_others (number_forms numbers.now)) }
 {
-    let mut rest = numbers;
-    while let [number, more @ ..] = rest {
+    for number in numbers {
         out.push(b' ')?;
         append_number(alloc, out, *number)?;
-        rest = more;
     }
     Ok(())
 }
@@ -43,6 +41,22 @@ fn append_hypotheses(alloc: Global, out: &mut Text, hyps: &Hyps) -> Result<(), A
         append_number(alloc, out, *first)?;
         append_numbers(alloc, out, rest)?;
     }
+    out.push(b')')
+}
+
+/// Adds a rule of numbers alone at the end of the text.
+fn append_cited(
+    alloc: Global,
+    out: &mut Text,
+    word: &[u8],
+    numbers: &[u64],
+) -> Result<(), AllocError>
+    ensures numerals { IfOk result (λ _. AreNumerals numbers.now) }
+    ensures text { IfOk result (λ _. out.new ≡ out.old ++ written (list_form (more_forms (word_form word.now) (number_forms numbers.now)))) }
+{
+    out.push(b'(')?;
+    out.append(word)?;
+    append_numbers(alloc, out, numbers)?;
     out.push(b')')
 }
 
@@ -91,13 +105,8 @@ fn append_why(alloc: Global, out: &mut Text, why: &Why) -> Result<(), AllocError
     ensures text { IfOk result (λ _. out.new ≡ out.old ++ written (why_form (plain_why why.now))) }
 {
     match why {
-        Why::Hyp => out.append(b"(P)"),
-        Why::Planned => out.append(b"(PLANNED)"),
-        Why::Deduct { src, hyp } => {
-            out.append(b"(DEDUCT")?;
-            append_numbers(alloc, out, &[*src, *hyp])?;
-            out.push(b')')
-        }
+        Why::Hyp => append_cited(alloc, out, b"P", &[]),
+        Why::Deduct { src, hyp } => append_cited(alloc, out, b"DEDUCT", &[*src, *hyp]),
         Why::Ui { src, term } => append_with_term(alloc, out, b"UI", *src, term),
         Why::Ugen { src, var } => append_generalization(alloc, out, *src, var),
         Why::Egen { src, term } => append_with_term(alloc, out, b"EGEN", *src, term),
@@ -113,16 +122,9 @@ fn append_why(alloc: Global, out: &mut Text, why: &Why) -> Result<(), AllocError
             append_name(alloc, out, var)?;
             out.push(b')')
         }
-        Why::Lambda { src } => {
-            out.append(b"(LAMBDA")?;
-            append_numbers(alloc, out, &[*src])?;
-            out.push(b')')
-        }
-        Why::Rulep { src } => {
-            out.append(b"(RULEP")?;
-            append_numbers(alloc, out, src.as_slice())?;
-            out.push(b')')
-        }
+        Why::Lambda { src } => append_cited(alloc, out, b"LAMBDA", &[*src]),
+        Why::Rulep { src } => append_cited(alloc, out, b"RULEP", src.as_slice()),
+        Why::Planned => append_cited(alloc, out, b"PLANNED", &[]),
     }
 }
 
