@@ -1,15 +1,11 @@
 -- Lines and their parts, written one behind the other.
-use Rattle.std.proofs.Common.{◌≡◌, ℕ, ◌+◌, ◌≤◌, List, [], ◌∷◌, ◌++◌, length, drop, slice_get, Some, suc, codes, decimal, refl, sym, ◌∙◌, ap, ap₂, subst, append-nil, append_assoc, arith}
-use Rattle.std.proofs.Math.Seq.{drop-cons}
-use Rattle.std.proofs.lemmas.List.{drop_all}
-use Rattle.std.proofs.lemmas.Option.{get_or_from_slice_get, slice_get_within}
+use Rattle.std.proofs.Common.{◌≡◌, ℕ, List, [], ◌∷◌, ◌++◌, codes, decimal, refl, ◌∙◌, ap, append_assoc}
 use Rattle.hol_terms.specs.Terms.{Term}
 use Rattle.core_text.specs.CoreForms.{term_form, triple_form}
 use Rattle.core_text.specs.Forms.{list_form, number_form, word_form}
 use Rattle.core_text.specs.Written.{written, written_others}
 use Rattle.nd_rules.specs.Lines.{DeductionLine}
 use Rattle.nd_check.specs.Forms.{derivation_form, line_form, line_forms, number_forms, why_form}
-use Rattle.nd_check.specs.Texts.{LineHasNames, LineHasNumerals, LinesHaveNames, LinesHaveNumerals}
 
 -- a word, a number and a term
 pub with_term_written : (entry w a b c d e f g : List ℕ) (n : ℕ) (t : Term) → a ≡ entry ++ 40 ∷ [] → b ≡ a ++ w → c ≡ b ++ 32 ∷ [] → d ≡ c ++ decimal n → e ≡ d ++ 32 ∷ [] → f ≡ e ++ written (term_form t) → g ≡ f ++ 41 ∷ []
@@ -38,34 +34,3 @@ derivation_written ls entry a b c d ea eb ec ed =
   where
     joined : (n m : List ℕ) → (((entry ++ codes "(DERIVATION ") ++ n) ++ m) ++ 41 ∷ [] ≡ entry ++ (40 ∷ (codes "DERIVATION" ++ (32 ∷ n ++ m)) ++ 41 ∷ [])
     joined n m = simp append_assoc refl
-
--- one line more
-next_line : (ls : List DeductionLine) (i : ℕ) (l : DeductionLine) → slice_get ls i ≡ Some l → drop i ls ≡ l ∷ drop (i + 1) ls
-next_line ls i l e =
-    let step : suc i ≡ i + 1 = omega arith in
-    drop-cons ls i l (slice_get_within ls i l e) ∙ ap₂ (λ (m : DeductionLine) (ms : List DeductionLine). m ∷ ms) (get_or_from_slice_get ls i l l e) (ap (λ n. drop n ls) step)
-
-pub line_on : (old pushed new whole : List ℕ) (ls : List DeductionLine) (i : ℕ) (l : DeductionLine) → slice_get ls i ≡ Some l → old ++ written_others (line_forms (drop i ls)) ≡ whole → pushed ≡ old ++ 32 ∷ [] → new ≡ pushed ++ written (line_form l)
-    → new ++ written_others (line_forms (drop (i + 1) ls)) ≡ whole
-line_on old pushed new whole ls i l e w ep en =
-    ap (λ x. x ++ rest) (en ∙ ap (λ x. x ++ written (line_form l)) ep) ∙ append_assoc (old ++ 32 ∷ []) (written (line_form l)) rest ∙ append_assoc old (32 ∷ []) (written (line_form l) ++ rest)
-    ∙ ap (λ ms. old ++ written_others (line_forms ms)) (sym (next_line ls i l e)) ∙ w
-  where
-    rest : List ℕ
-    rest = written_others (line_forms (drop (i + 1) ls))
-
-pub names_on : (ls : List DeductionLine) (i : ℕ) (l : DeductionLine) → slice_get ls i ≡ Some l → LineHasNames l → (LinesHaveNames (drop i ls) → LinesHaveNames ls) → LinesHaveNames (drop (i + 1) ls) → LinesHaveNames ls
-names_on ls i l e first all rest = all (subst LinesHaveNames (sym (next_line ls i l e)) (first, rest))
-
-pub numerals_on : (ls : List DeductionLine) (i : ℕ) (l : DeductionLine) → slice_get ls i ≡ Some l → LineHasNumerals l → (LinesHaveNumerals (drop i ls) → LinesHaveNumerals ls) → LinesHaveNumerals (drop (i + 1) ls) → LinesHaveNumerals ls
-numerals_on ls i l e first all rest = all (subst LinesHaveNumerals (sym (next_line ls i l e)) (first, rest))
-
--- and none more
-pub lines_end : (out whole : List ℕ) (ls : List DeductionLine) (i : ℕ) → length ls ≤ i → out ++ written_others (line_forms (drop i ls)) ≡ whole → out ≡ whole
-lines_end out whole ls i past w = sym (append-nil out) ∙ ap (λ ms. out ++ written_others (line_forms ms)) (sym (drop_all i ls past)) ∙ w
-
-pub names_end : (ls : List DeductionLine) (i : ℕ) → length ls ≤ i → (LinesHaveNames (drop i ls) → LinesHaveNames ls) → LinesHaveNames ls
-names_end ls i past all = all (subst LinesHaveNames (sym (drop_all i ls past)) tt)
-
-pub numerals_end : (ls : List DeductionLine) (i : ℕ) → length ls ≤ i → (LinesHaveNumerals (drop i ls) → LinesHaveNumerals ls) → LinesHaveNumerals ls
-numerals_end ls i past all = all (subst LinesHaveNumerals (sym (drop_all i ls past)) tt)

@@ -1,13 +1,12 @@
 //! Writes derivation texts.
 
-ghost use Rattle.std.specs.Prelude.{◌≡◌, ◌++◌, ◌∷◌, ◌<◌, ◌≤◌, ◌^◌, [], IfOk, decimal, length};
+ghost use Rattle.std.specs.Prelude.{◌≡◌, ◌++◌, ◌∷◌, ◌<◌, ◌≤◌, ◌^◌, [], IfOk, decimal, length, map};
 ghost use Rattle.hol_terms.specs.Names.{IsName};
 ghost use Rattle.hol_terms.specs.Terms.{plain_term};
 ghost use Rattle.core_text.specs.CoreForms.{HasNames, term_form, triple_form};
 ghost use Rattle.core_text.specs.Forms.{list_form, more_forms, nesting, number_form, word_form};
 ghost use Rattle.core_text.specs.Written.{written, written_others};
 ghost use Rattle.nd_rules.specs.Lines.{cited, generalization, plain_line, plain_why};
-ghost use Rattle.nd_rules.specs.Outlines.{IsOutline};
 ghost use Rattle.nd_check.specs.Forms.{derivation_form, line_form, line_forms, number_forms, why_form};
 ghost use Rattle.nd_check.specs.Texts.{AreNumerals, IsDerivationText, LineHasNames, LineHasNumerals, LinesHaveNames, LinesHaveNumerals, WhyHasNames};
 
@@ -147,27 +146,27 @@ fn append_line(alloc: Global, out: &mut Text, line: &Line) -> Result<(), AllocEr
 }
 
 /// Adds lines at the end of the text, each behind a space.
-fn append_lines(alloc: Global, out: &mut Text, outline: &Outline) -> Result<(), AllocError>
-    ensures names { IfOk result (λ _. LinesHaveNames outline.now) }
-    ensures numerals { IfOk result (λ _. LinesHaveNumerals outline.now) }
-    ensures text { IfOk result (λ _. out.new ≡ out.old ++ written_others (line_forms outline.now)) }
+fn append_lines(alloc: Global, out: &mut Text, lines: &[Line]) -> Result<(), AllocError>
+    ensures names { IfOk result (λ _. LinesHaveNames (map plain_line lines.now)) }
+    ensures numerals { IfOk result (λ _. LinesHaveNumerals (map plain_line lines.now)) }
+    ensures text { IfOk result (λ _. out.new ≡ out.old ++ written_others (line_forms (map plain_line lines.now))) }
 {
-    for i in 0..outline.len() {
+    for line in lines {
         out.push(b' ')?;
-        append_line(alloc, out, outline.at(i))?;
+        append_line(alloc, out, line)?;
     }
     Ok(())
 }
 
 /// Adds a derivation at the end of the text.
-fn append_derivation(alloc: Global, out: &mut Text, outline: &Outline) -> Result<(), AllocError>
-    ensures names { IfOk result (λ _. LinesHaveNames outline.now) }
-    ensures numerals { IfOk result (λ _. LinesHaveNumerals outline.now) }
-    ensures text { IfOk result (λ _. out.new ≡ out.old ++ written (derivation_form outline.now)) }
+fn append_derivation(alloc: Global, out: &mut Text, lines: &[Line]) -> Result<(), AllocError>
+    ensures names { IfOk result (λ _. LinesHaveNames (map plain_line lines.now)) }
+    ensures numerals { IfOk result (λ _. LinesHaveNumerals (map plain_line lines.now)) }
+    ensures text { IfOk result (λ _. out.new ≡ out.old ++ written (derivation_form (map plain_line lines.now))) }
 {
     out.append(b"(DERIVATION ")?;
     append_number(alloc, out, 1)?;
-    append_lines(alloc, out, outline)?;
+    append_lines(alloc, out, lines)?;
     out.push(b')')?;
     Ok(())
 }
@@ -176,11 +175,11 @@ fn append_derivation(alloc: Global, out: &mut Text, outline: &Outline) -> Result
 /// It is read again as that outline, within the limits of reading. An error comes only where memory is wanting.
 pub fn write_derivation(alloc: Global, outline: &Outline) -> Result<Text, AllocError>
     requires { 0 < length outline.now }
-    ensures read { IsOutline outline.now → nesting (derivation_form outline.now) ≤ 5000 → IfOk result (λ text. IsDerivationText text outline.now) }
+    ensures read { nesting (derivation_form outline.now) ≤ 5000 → IfOk result (λ text. IsDerivationText text outline.now) }
     ensures text { IfOk result (λ text. text ≡ written (derivation_form outline.now) ++ 10 ∷ []) }
 {
     let mut out = Text::new(alloc);
-    append_derivation(alloc, &mut out, outline)?;
+    append_derivation(alloc, &mut out, outline.as_slice())?;
     out.push(b'\n')?;
     Ok(out)
 }

@@ -69,6 +69,14 @@ impl Outline {
         &self.lines[i as usize]
     }
 
+    /// The lines as a slice: well-formed, with numbers that rise.
+    pub fn as_slice(&self) -> &[Line]
+        ensures all { map plain_line result.now ≡ self.now }
+        ensures outline { IsOutline self.now }
+    {
+        self.lines.as_slice()
+    }
+
     /// The line of a number, `None` exactly where none has it.
     pub fn find(&self, number: u64) -> Option<&Line>
         ensures line { option_map (λ line. plain_line line.now) result ≡ line_of self.now number }
