@@ -20,18 +20,11 @@ pub enum VerifyFault {
     /// Memory is wanting.
     Memory,
     /// The line of this number isn't justified.
-    BadLine {
-        number: u64,
-        fault: RuleFault,
-    },
+    BadLine { number: u64, fault: RuleFault },
     /// The line of this number is planned.
-    Unfinished {
-        number: u64,
-    },
+    Unfinished { number: u64 },
     /// The last line, of this number, has hypotheses.
-    NotClosed {
-        number: u64,
-    },
+    NotClosed { number: u64 },
 }
 
 /// Whether the line is justified by the outline, and not planned.

@@ -287,9 +287,9 @@ other_line (x ∷ xs) k w n differ = go (x.number == k) refl (other_line xs k w 
   where
     go : (a : Bool) → (x.number == k) ≡ a → line_of (with_why xs k w) n ≡ line_of xs n → line_of (cond a (record x { why = w }) x ∷ with_why xs k w) n ≡ line_of (x ∷ xs) n
     go true e rest =
-        elim (eqb_tells x.number n)
-        [ inl same ↦ elim (eqb_tells x.number k) [ inl here ↦ absurd (differ (sym same.1 ∙ here.1)) | inr other ↦ absurd (true_isnt_false (sym e ∙ other.0)) ]
-        | inr other ↦ ap (λ b. cond b (Some (record x { why = w })) (line_of (with_why xs k w) n)) other.0 ∙ rest ∙ ap (λ b. cond b (Some x) (line_of xs n)) (sym other.0)
+        elim (eqb_tells x.number n) [
+          | inl same ↦ elim (eqb_tells x.number k) [ inl here ↦ absurd (differ (sym same.1 ∙ here.1)) | inr other ↦ absurd (true_isnt_false (sym e ∙ other.0)) ]
+          | inr other ↦ ap (λ b. cond b (Some (record x { why = w })) (line_of (with_why xs k w) n)) other.0 ∙ rest ∙ ap (λ b. cond b (Some x) (line_of xs n)) (sym other.0)
         ]
     go false e rest = ap (λ o. cond (x.number == n) (Some x) o) rest
 
@@ -313,24 +313,24 @@ given_later x xs k w e = ap (λ b. line_of (cond b (record x { why = w }) x ∷ 
 given_line : (lines : List DeductionLine) (k : ℕ) (w : Justification) → IsPlannedAt lines k → SayTheSame (line_of lines k) (line_of (with_why lines k w) k)
 given_line [] k w p = tt
 given_line (x ∷ xs) k w p =
-    elim (eqb_tells x.number k)
-    [ inl here ↦
-        let found : line_of (x ∷ xs) k ≡ Some x = ap (λ b. cond b (Some x) (line_of xs k)) here.0 in
-        let given : line_of (with_why (x ∷ xs) k w) k ≡ Some (record x { why = w }) = given_here x xs k w here.0 in
-        same_at (line_of (x ∷ xs) k) (line_of (with_why (x ∷ xs) k w) k) x (record x { why = w }) found given (record { formula = refl; hypotheses = refl; assumed = λ h. absurd (planned_isnt x.why h (p x found)) })
-    | inr other ↦
-        let found : line_of (x ∷ xs) k ≡ line_of xs k = ap (λ b. cond b (Some x) (line_of xs k)) other.0 in
-        let given : line_of (with_why (x ∷ xs) k w) k ≡ line_of (with_why xs k w) k = given_later x xs k w other.0 in
-        let P : Option DeductionLine → Type 0 = λ o. SayTheSame o (line_of (with_why (x ∷ xs) k w) k) in
-        let Q : Option DeductionLine → Type 0 = λ o. SayTheSame (line_of xs k) o in
-        subst P (sym found) (subst Q (sym given) (given_line xs k w (λ m e. p m (found ∙ e))))
+    elim (eqb_tells x.number k) [
+      | inl here ↦
+          let found : line_of (x ∷ xs) k ≡ Some x = ap (λ b. cond b (Some x) (line_of xs k)) here.0 in
+          let given : line_of (with_why (x ∷ xs) k w) k ≡ Some (record x { why = w }) = given_here x xs k w here.0 in
+          same_at (line_of (x ∷ xs) k) (line_of (with_why (x ∷ xs) k w) k) x (record x { why = w }) found given (record { formula = refl; hypotheses = refl; assumed = λ h. absurd (planned_isnt x.why h (p x found)) })
+      | inr other ↦
+          let found : line_of (x ∷ xs) k ≡ line_of xs k = ap (λ b. cond b (Some x) (line_of xs k)) other.0 in
+          let given : line_of (with_why (x ∷ xs) k w) k ≡ line_of (with_why xs k w) k = given_later x xs k w other.0 in
+          let P : Option DeductionLine → Type 0 = λ o. SayTheSame o (line_of (with_why (x ∷ xs) k w) k) in
+          let Q : Option DeductionLine → Type 0 = λ o. SayTheSame (line_of xs k) o in
+          subst P (sym found) (subst Q (sym given) (given_line xs k w (λ m e. p m (found ∙ e))))
     ]
 
 given_same : (lines : List DeductionLine) (k : ℕ) (w : Justification) → IsPlannedAt lines k → (n : ℕ) → SayTheSame (line_of lines n) (line_of (with_why lines k w) n)
 given_same lines k w p n =
-    elim (eqb_tells n k)
-    [ inl here ↦ let P : ℕ → Type 0 = λ m. SayTheSame (line_of lines m) (line_of (with_why lines k w) m) in subst P (sym here.1) (given_line lines k w p)
-    | inr other ↦ let P : Option DeductionLine → Type 0 = λ o. SayTheSame (line_of lines n) o in subst P (sym (other_line lines k w n other.1)) (alike (line_of lines n))
+    elim (eqb_tells n k) [
+      | inl here ↦ let P : ℕ → Type 0 = λ m. SayTheSame (line_of lines m) (line_of (with_why lines k w) m) in subst P (sym here.1) (given_line lines k w p)
+      | inr other ↦ let P : Option DeductionLine → Type 0 = λ o. SayTheSame (line_of lines n) o in subst P (sym (other_line lines k w n other.1)) (alike (line_of lines n))
     ]
 
 pub stays_under_reasons : (lines : List DeductionLine) (l : DeductionLine) (n : ℕ) (w : Justification) → IsPlannedAt lines n → IsJustified lines l → IsJustified (with_why lines n w) l
