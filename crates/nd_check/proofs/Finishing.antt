@@ -25,7 +25,7 @@ within_list [] i x e = cc
 within_list (y ∷ xs) zero x e = omega arith
 within_list (y ∷ xs) (suc i) x e = let rest : i < length xs = within_list xs i x e in omega (arith, rest)
 
-last_split : (xs : List DeductionLine) (i : ℕ) (x : DeductionLine) → suc i ≡ length xs → slice_get xs i ≡ Some x → IsLast xs x
+pub last_split : (xs : List DeductionLine) (i : ℕ) (x : DeductionLine) → suc i ≡ length xs → slice_get xs i ≡ Some x → IsLast xs x
 last_split [] i x n e = cc
 last_split (y ∷ []) zero x n e = let here : y ≡ x = cc in ([], ap (λ z. z ∷ []) here)
 last_split (y ∷ []) (suc i) x n e = cc

@@ -8,6 +8,7 @@ ghost use Rattle.nd_rules.specs.Outlines.{IsDerivation};
 ghost use Rattle.nd_check.specs.Verifying.{IsConclusion, IsFinished, IsFirstFault, IsLineFault, fault_line};
 
 use hol_terms::lists::Text;
+use hol_terms::terms::Tm;
 use nd_rules::faults::RuleFault;
 use nd_rules::justifying::justify;
 use nd_rules::lines::{Line, Why};
@@ -88,6 +89,14 @@ fn append_number(alloc: Global, out: &mut Text, number: u64) -> Result<(), Alloc
 {
     let words = format!(in alloc; "LINE {number}")?;
     out.append(words.as_bytes())
+}
+
+/// The formula of the last line.
+pub fn conclusion(outline: &Outline) -> &Tm
+    requires { 0 < length outline.now }
+    ensures { IsConclusion outline.now (plain_term result.now) }
+{
+    &outline.at(outline.len() - 1).formula
 }
 
 impl VerifyFault {

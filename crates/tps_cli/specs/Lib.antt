@@ -1,4 +1,7 @@
+pub mod Checks
+pub mod Outcomes
 pub mod Results
 pub mod Runs
 pub mod Statuses
+pub mod Verifies
 pub mod Words

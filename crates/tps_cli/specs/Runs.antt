@@ -1,13 +1,13 @@
 -- What a run of the program does to its source and its sink.
-use Rattle.std.specs.Prelude.{◌≡◌, ℕ, ◌≤◌, List, [], length, Option, Some, None, ⊤, ◌⊎◌}
+use Rattle.std.specs.Prelude.{◌≡◌, ℕ, ◌≤◌, List, [], length, Option, ◌⊎◌}
 use Rattle.std.specs.Io.KnownBytes.{Appends}
 use Rattle.tps_io.specs.Causes.{Rose}
-use Rattle.tps_io.specs.Stream.{HeldMore, AppendsFront}
+use Rattle.tps_io.specs.Stream.{TakesAll, HeldMore, AppendsFront}
 use Rattle.tps_cli.specs.declared.run.TheConstants.{LONGEST_INPUT}
 use Rattle.tps_cli.specs.declared.command.Command.{Command}
 use Rattle.tps_cli.specs.declared.status.Status.{Status}
 use Rattle.tps_cli.specs.declared.status.Status.TheVariants.{Done, No, Words, BadText, TooLong, ReadFault, WriteFault, Memory}
-use Rattle.tps_cli.specs.Results.{Answers, output}
+use Rattle.tps_cli.specs.Results.{Answers}
 
 -- one end of a run: what the source has left and the sink has taken, where they tell it, and how many of their calls failed
 pub record Ends : Type 0 where
@@ -16,15 +16,17 @@ pub record Ends : Type 0 where
   pub written : Option (List ℕ)
   pub write_faults : ℕ
 
--- where the source tells its bytes: it held no more than a command reads, the command answers this status to them, and all of them
--- were read
-abbrev pub AnswersAll : Command → Option (List ℕ) → Option (List ℕ) → Status → Type 0
-AnswersAll c None new status = ⊤
-AnswersAll c (Some bytes) None status = ⊥
-AnswersAll c (Some bytes) (Some rest) status = (length bytes ≤ LONGEST_INPUT) × Answers c bytes status (output status) × (rest ≡ [])
-
 abbrev pub NoReadFault : Ends → Ends → Type 0
 NoReadFault old new = new.read_faults ≡ old.read_faults
+
+-- all bytes that the source had were read, no more than a command reads and with no fault, and the command answers to them this
+-- status and this output
+pub record Answered (c : Command) (old new : Ends) (status : Status) (out : List ℕ) : Type 0 where
+  pub bytes : List ℕ
+  pub read : TakesAll old.left new.left bytes
+  pub within : length bytes ≤ LONGEST_INPUT
+  pub answer : Answers c bytes status out
+  pub calm : NoReadFault old new
 
 -- nothing was written, and the sink didn't fail
 abbrev pub NothingWritten : Ends → Ends → Type 0
@@ -32,22 +34,18 @@ NothingWritten old new = (new.written ≡ old.written) × (new.write_faults ≡ 
 
 -- the whole output was written
 abbrev pub Finished : Command → Ends → Ends → Status → Type 0
-Finished c old new status =
-    AnswersAll c old.left new.left status × Appends old.written new.written (output status)
-    × (new.write_faults ≡ old.write_faults) × NoReadFault old new
+Finished c old new status = (out : List ℕ) × Answered c old new status out × Appends old.written new.written out × (new.write_faults ≡ old.write_faults)
 
 -- a front of the output was written, and the sink failed
 abbrev pub CutShort : Command → Ends → Ends → Status → Type 0
-CutShort c old new status =
-    AnswersAll c old.left new.left status × AppendsFront old.written new.written (output status)
-    × Rose old.write_faults new.write_faults × NoReadFault old new
+CutShort c old new status = (out : List ℕ) × Answered c old new status out × AppendsFront old.written new.written out × Rose old.write_faults new.write_faults
 
 -- a run of the command, from one end to the other, may answer this status
 abbrev pub Ran : Command → Ends → Ends → Status → Type 0
 Ran c old new Done = Finished c old new Done
 Ran c old new No = Finished c old new No
 Ran c old new Words = ⊥
-Ran c old new BadText = AnswersAll c old.left new.left BadText × NothingWritten old new × NoReadFault old new
+Ran c old new BadText = Answered c old new BadText [] × NothingWritten old new
 Ran c old new TooLong = HeldMore old.left LONGEST_INPUT × NothingWritten old new × NoReadFault old new
 Ran c old new ReadFault = Rose old.read_faults new.read_faults × NothingWritten old new
 Ran c old new WriteFault = CutShort c old new Done ⊎ CutShort c old new No

@@ -5,25 +5,15 @@ ghost use Rattle.hol_terms.specs.Terms.{plain_term};
 ghost use Rattle.hol_terms.specs.Typing.{IsFormula};
 ghost use Rattle.exp_check.specs.Proofs.{IsProof};
 ghost use Rattle.proof_text.specs.Texts.{IsProofText, Proof, plain_proof};
-ghost use Rattle.tps_cli.specs.Results.{Answers, output, status_of};
-ghost use Rattle.tps_cli.specs.declared.command.Command.TheVariants.{Check};
+ghost use Rattle.tps_cli.specs.Checks.{ChecksTo};
+ghost use Rattle.tps_cli.specs.Outcomes.{output_of, status_of};
 
+use crate::answer::{Answer, said};
 use core_text::faults::TextFault;
 use exp_check::checks::check as check_proof;
 use exp_check::faults::CheckFault;
 use proof_text::texts::{ProofText, read_proof};
 use std::alloc::{AllocError, Global};
-
-/// What `check` finds.
-#[derive(Clone, Copy, Debug, PartialEq, Eq)]
-pub enum Verdict {
-    /// The text is an expansion proof.
-    Accepted,
-    /// The text is a proof text and no expansion proof.
-    Rejected,
-    /// The bytes aren't a proof text.
-    Unreadable,
-}
 
 /// The proof text that the bytes are, `None` exactly where they are none.
 fn read(alloc: Global, bytes: &[u8]) -> Result<Option<ProofText>, AllocError>
@@ -50,15 +40,15 @@ fn is_proof(alloc: Global, text: ProofText) -> Result<bool, AllocError>
 }
 
 /// What `check` answers to the bytes.
-pub fn check(alloc: Global, bytes: &[u8]) -> Result<Verdict, AllocError>
-    ensures { IfOk result (λ verdict. Answers Check bytes.now (status_of verdict) (output (status_of verdict))) }
+pub fn check(alloc: Global, bytes: &[u8]) -> Result<Answer, AllocError>
+    ensures { IfOk result (λ answer. ChecksTo bytes.now (status_of answer) (output_of answer)) }
 {
     let Some(text) = read(alloc, bytes)? else {
-        return Ok(Verdict::Unreadable);
+        return Ok(Answer::Unreadable);
     };
     if is_proof(alloc, text)? {
-        Ok(Verdict::Accepted)
+        Ok(Answer::Yes(said(alloc, b"ACCEPTED\n")?))
     } else {
-        Ok(Verdict::Rejected)
+        Ok(Answer::No(said(alloc, b"REJECTED\n")?))
     }
 }

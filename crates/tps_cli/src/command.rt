@@ -1,6 +1,6 @@
 //! The words of the command line.
 
-ghost use Rattle.std.specs.Prelude.{◌≡◌, ◌↔◌, ◌∷◌, IsTrue, MatchOption, [], codes, map, string_bytes};
+ghost use Rattle.std.specs.Prelude.{◌≡◌, ◌↔◌, ◌∷◌, IfSome, IsTrue, MatchOption, [], codes, map, string_bytes};
 ghost use Rattle.tps_cli.specs.declared.command.Command.{Command};
 ghost use Rattle.tps_cli.specs.Words.{words_of};
 
@@ -9,12 +9,19 @@ ghost use Rattle.tps_cli.specs.Words.{words_of};
 pub enum Command {
     /// `check`: whether the input is the text of an expansion proof.
     Check,
+    /// `verify`: whether the input is the text of a derivation.
+    Verify,
 }
 
-fn is_check(word: &str) -> bool
-    ensures { IsTrue result ↔ (word.now ≡ codes "check") }
+/// The command of one word.
+fn command_of(word: &str) -> Option<Command>
+    ensures { MatchOption result ((c : Command) → word.now ∷ [] ≡ words_of c → ⊥) (λ c. word.now ∷ [] ≡ words_of c) }
 {
-    word == "check"
+    match word {
+        "check" => Some(Command::Check),
+        "verify" => Some(Command::Verify),
+        _ => None,
+    }
 }
 
 impl Command {
@@ -23,13 +30,7 @@ impl Command {
         ensures { MatchOption result ((c : Command) → map string_bytes words.now ≡ words_of c → ⊥) (λ c. map string_bytes words.now ≡ words_of c) }
     {
         match words {
-            [word] => {
-                if is_check(word.as_str()) {
-                    Some(Command::Check)
-                } else {
-                    None
-                }
-            }
+            [word] => command_of(word.as_str()),
             _ => None,
         }
     }

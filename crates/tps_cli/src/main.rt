@@ -1,10 +1,12 @@
 //! The program `tps`.
 #![tactic(auto)]
 
+mod answer;
 mod check;
 mod command;
 mod run;
 mod status;
+mod verify;
 
 use crate::run::run;
 use std::env;

@@ -101,3 +101,36 @@ fn a_write_that_fails_leaves_a_front(rt: HostRuntime) -> Result<(), Fail> {
     assert_eq!(rt; written.as_slice(), b"ACC".as_slice());
     Ok(())
 }
+
+#[test]
+fn derivations_are_verified(rt: HostRuntime) -> Result<(), Fail> {
+    let alloc = rt.alloc();
+    for (text, wanted, line) in [
+        (
+            "(DERIVATION 1 (1 () (A (A OR (V p O)) (A NOT (V p O))) (RULEP)))",
+            Status::Done,
+            "VERIFIED (A (A OR (V p O)) (A NOT (V p O)))\n",
+        ),
+        (
+            "(DERIVATION 1 (1 () (V p O) (RULEP)))",
+            Status::No,
+            "LINE 1 NOTFOLLOWS\n",
+        ),
+        (
+            "(DERIVATION 1 (1 (1) (V p O) (P)))",
+            Status::No,
+            "LINE 1 NOTCLOSED\n",
+        ),
+        (
+            "(DERIVATION 1 (1 () (V p O) (PLANNED)))",
+            Status::No,
+            "LINE 1 PLANNED\n",
+        ),
+        ("(DERIVATION 1)", Status::BadText, ""),
+    ] {
+        let (status, written) = run_on(alloc, "verify", text, Vec::new(alloc), Vec::new(alloc))?;
+        assert_eq!(rt; status, wanted);
+        assert_eq!(rt; written.as_slice(), line.as_bytes());
+    }
+    Ok(())
+}
