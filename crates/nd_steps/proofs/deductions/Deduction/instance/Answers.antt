@@ -1,0 +1,10 @@
+use Rattle.hol_terms.specs.Terms.{plain_term}
+use Rattle.nd_steps.proofs.Forming.{instance_formed}
+use Rattle.nd_steps.proofs.Justifying.{instance_justified}
+use Rattle.nd_steps.proofs.deductions.Deduction.instance.Goals as goal
+
+pub add-requires-clause-formula : goal.add-requires-clause-formula
+add-requires-clause-formula c = λ d. instance_formed c.args.self.now d c.args.hyps.now (plain_term c.args.formula) c.args.source (plain_term c.args.term) c.requires.premises
+
+pub add-requires-clause-justified : goal.add-requires-clause-justified
+add-requires-clause-justified c = λ d. instance_justified c.args.self.now d c.args.hyps.now (plain_term c.args.formula) c.args.source (plain_term c.args.term) c.requires.assumptions c.requires.premises

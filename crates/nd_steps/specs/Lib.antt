@@ -1,0 +1,3 @@
+pub mod Deductions
+pub mod Laws
+pub mod Premises
