@@ -1,0 +1,11 @@
+pub mod Signs
+pub mod Cutting
+pub mod Results
+pub mod Meanings
+pub mod Running
+pub mod Reached
+pub mod Sound
+pub mod Completing
+pub mod Looping
+pub mod Texts
+pub mod Grouping

@@ -1,0 +1,12 @@
+pub mod Codes
+pub mod Depth
+pub mod Faults
+pub mod Grammar
+pub mod Lexed
+pub mod Groups
+pub mod Machine
+pub mod Parsing
+pub mod Raws
+pub mod Reader
+pub mod Tokens
+pub mod Views
