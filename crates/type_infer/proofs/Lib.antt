@@ -1,0 +1,14 @@
+pub mod Annotated
+pub mod Answered
+pub mod Completeness
+pub mod Fillings
+pub mod Knowing
+pub mod Loads
+pub mod Merges
+pub mod Names
+pub mod Numbers
+pub mod Orders
+pub mod Solved
+pub mod Soundness
+pub mod Spanning
+pub mod Stores

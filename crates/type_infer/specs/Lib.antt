@@ -1,0 +1,15 @@
+pub mod Annotations
+pub mod Assignments
+pub mod Cells
+pub mod Conditions
+pub mod Equations
+pub mod Faults
+pub mod Known
+pub mod Laws
+pub mod Loading
+pub mod Merging
+pub mod Ordering
+pub mod Scopes
+pub mod Solutions
+pub mod Spans
+pub mod Steps
