@@ -1,0 +1,9 @@
+pub mod Annotated
+pub mod Applied
+pub mod Binders
+pub mod LaidOut
+pub mod Lexed
+pub mod Phrased
+pub mod Printing
+pub mod Readable
+pub mod Taken

@@ -1,0 +1,10 @@
+pub mod BoundNames
+pub mod Laws
+pub mod Layouts
+pub mod Lines
+pub mod Outputs
+pub mod Pieces
+pub mod Printed
+pub mod Shapes
+pub mod ShortWords
+pub mod Signs
