@@ -1,3 +1,11 @@
+pub mod Around
+pub mod Climbs
+pub mod Elements
+pub mod Innermost
+pub mod Inserting
+pub mod Placed
+pub mod Reaching
+pub mod Staging
 pub mod Lists
 pub mod Marks
 pub mod Preorder
@@ -8,3 +16,4 @@ pub mod Climbing
 pub mod Cycles
 pub mod Nested
 pub mod Ordering
+pub mod Weighing

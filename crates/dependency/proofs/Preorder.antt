@@ -126,7 +126,7 @@ nest_apart (q ∷ os) zero (suc j) o p h e f less = let same : q ≡ o = cc in r
 nest_apart (q ∷ os) (suc i) (suc j) o p h e f less = nest_apart os i j o p h.2 e f (omega (arith, less))
 
 -- what an occurrence's number says of its place
-place_is : (os : List Occurrence) (e : ℕ) (o : Occurrence) → occurrence_at os e ≡ Some o → (1 ≤ e) × (slice_get os (e - 1) ≡ Some o)
+pub place_is : (os : List Occurrence) (e : ℕ) (o : Occurrence) → occurrence_at os e ≡ Some o → (1 ≤ e) × (slice_get os (e - 1) ≡ Some o)
 place_is os e o h =
     let number = occurrence_within os e o h in
     (number.0, rw (ne_eqb e 0 (λ z. absurd (omega (arith, z, number)))) at h)

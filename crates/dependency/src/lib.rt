@@ -4,6 +4,7 @@
 pub mod dependencies;
 pub mod faults;
 mod graphs;
+pub mod laws;
 mod nesting;
 pub mod orders;
 mod uses;

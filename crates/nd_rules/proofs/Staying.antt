@@ -1,5 +1,5 @@
--- A justified line stays justified by lines that say the same up to its number.
-use Rattle.std.proofs.Common.{◌≡◌, ◌≢◌, ℕ, suc, ◌<◌, ◌≤◌, ◌==◌, nat_lt, List, [], ◌∷◌, ◌++◌, Bool, true, false, not, cond, ◌&&◌, refl, sym, ◌∙◌, ap, ap₂, subst, arith, inl, inr}
+-- A justified line stays justified by lines that say the same at the numbers that it names.
+use Rattle.std.proofs.Common.{◌≡◌, ◌≢◌, ℕ, suc, ◌<◌, ◌≤◌, ◌==◌, nat_lt, List, [], ◌∷◌, ◌++◌, Bool, true, false, not, cond, ◌&&◌, refl, sym, ◌∙◌, ap, ap₂, subst, arith, ◌⊎◌, inl, inr}
 use Rattle.std.specs.Prelude.{Option, Some, None, is_none, find, filter, map, All, Contains}
 use Rattle.std.specs.List.{AllByRecursion, flat_map}
 use Rattle.std.proofs.lemmas.Bool.Decides.{eqb_tells, nat_tests}
@@ -53,17 +53,18 @@ early_small l n h = go (nat_lt n l.number) refl (is_hypothesis l.why) (n == l.nu
     go false less true false same e = absurd (true_isnt_false e)
     go false less false false same e = absurd (true_isnt_false e)
 
-module _ (lines others : List DeductionLine) (l : DeductionLine) (same : (n : ℕ) → n ≤ l.number → SayTheSame (line_of lines n) (line_of others n)) where
+module _ (lines others : List DeductionLine) (l : DeductionLine) (Named : ℕ → Type 0) (own : Named l.number) (same : (n : ℕ) → Named n → n ≢ l.number → SayTheSame (line_of lines n) (line_of others n)) where
   -- with l put at its number
   itself : SaysTheSame l l
   itself = record { formula = refl; hypotheses = refl; assumed = λ h. h }
 
-  with_same : (n : ℕ) → n ≤ l.number → SayTheSame (line_with lines l n) (line_with others l n)
-  with_same n small = go (n == l.number)
+  with_same : (n : ℕ) → Named n → SayTheSame (line_with lines l n) (line_with others l n)
+  with_same n small = go (n == l.number) (eqb_tells n l.number)
     where
-      go : (b : Bool) → SayTheSame (cond b (Some l) (line_of lines n)) (cond b (Some l) (line_of others n))
-      go true = itself
-      go false = same n small
+      go : (b : Bool) → ((b ≡ true) × (n ≡ l.number)) ⊎ ((b ≡ false) × (n ≢ l.number)) → SayTheSame (cond b (Some l) (line_of lines n)) (cond b (Some l) (line_of others n))
+      go true tells = itself
+      go false (inl here) = absurd (true_isnt_false (sym here.0))
+      go false (inr other) = same n small other.1
 
   -- a line found is found among the others
   abbrev Found : ℕ → DeductionLine → Type 0
@@ -74,7 +75,7 @@ module _ (lines others : List DeductionLine) (l : DeductionLine) (same : (n : �
   found_in (Some a) None m h e = absurd h
   found_in (Some a) (Some k) m h e = let here : a ≡ m = cc in (k, refl, subst (λ (x : DeductionLine). SaysTheSame x k) here h)
 
-  found : (n : ℕ) (m : DeductionLine) → n ≤ l.number → IsLine lines l n m → Found n m
+  found : (n : ℕ) (m : DeductionLine) → Named n → IsLine lines l n m → Found n m
   found n m small e = found_in (line_with lines l n) (line_with others l n) m (with_same n small) e
 
   -- and a line of the others was found before
@@ -84,7 +85,7 @@ module _ (lines others : List DeductionLine) (l : DeductionLine) (same : (n : �
   before_in (Some m) None k h e = cc
   before_in (Some m) (Some a) k h e = let here : a ≡ k = cc in (m, refl, subst (λ (x : DeductionLine). SaysTheSame m x) here h)
 
-  before : (n : ℕ) (k : DeductionLine) → n ≤ l.number → IsLine others l n k → (m : DeductionLine) × IsLine lines l n m × SaysTheSame m k
+  before : (n : ℕ) (k : DeductionLine) → Named n → IsLine others l n k → (m : DeductionLine) × IsLine lines l n m × SaysTheSame m k
   before n k small e = before_in (line_with lines l n) (line_with others l n) k (with_same n small) e
 
   missing_in : (o p : Option DeductionLine) → SayTheSame o p → is_none o ≡ is_none p
@@ -93,7 +94,7 @@ module _ (lines others : List DeductionLine) (l : DeductionLine) (same : (n : �
   missing_in (Some m) None h = absurd h
   missing_in (Some m) (Some k) h = refl
 
-  still_there : (n : ℕ) → n ≤ l.number → is_missing lines l n ≡ false → is_missing others l n ≡ false
+  still_there : (n : ℕ) → Named n → is_missing lines l n ≡ false → is_missing others l n ≡ false
   still_there n small e = sym (missing_in (line_with lines l n) (line_with others l n) (with_same n small)) ∙ e
 
   hypotheses_in-same : (o p : Option DeductionLine) → SayTheSame o p → hypotheses_in p ≡ hypotheses_in o
@@ -102,7 +103,7 @@ module _ (lines others : List DeductionLine) (l : DeductionLine) (same : (n : �
   hypotheses_in-same (Some m) None h = absurd h
   hypotheses_in-same (Some m) (Some k) h = h.hypotheses
 
-  hypotheses_same : (n : ℕ) → n ≤ l.number → hypotheses_of others l n ≡ hypotheses_of lines l n
+  hypotheses_same : (n : ℕ) → Named n → hypotheses_of others l n ≡ hypotheses_of lines l n
   hypotheses_same n small = hypotheses_in-same (line_with lines l n) (line_with others l n) (with_same n small)
 
   formulas_in-same : (o p : Option DeductionLine) → SayTheSame o p → formulas_in p ≡ formulas_in o
@@ -112,7 +113,7 @@ module _ (lines others : List DeductionLine) (l : DeductionLine) (same : (n : �
   formulas_in-same (Some m) (Some k) h = ap (λ (t : Term). t ∷ []) h.formula
 
   abbrev Small : List ℕ → Type 0
-  Small ns = AllByRecursion (λ n. n ≤ l.number) ns
+  Small ns = AllByRecursion Named ns
 
   formulas_same : (ns : List ℕ) → Small ns → formulas_of others l ns ≡ formulas_of lines l ns
   formulas_same [] h = refl
@@ -181,7 +182,7 @@ module _ (lines others : List DeductionLine) (l : DeductionLine) (same : (n : �
   variable_before (assignments ds) a s c h = absurd h
   variable_before planned a s c h = absurd h
 
-  free_before : (n : ℕ) → n ≤ l.number → Small (cited l.why) → IsFreeIn others l n → IsFreeIn lines l n
+  free_before : (n : ℕ) → Named n → Small (cited l.why) → IsFreeIn others l n → IsFreeIn lines l n
   free_before n small c h =
       let m = before n h.3.0 small h.3.1 in
       let P : Term → Type 0 = λ t. IsFree h.0 h.1 t in
@@ -193,7 +194,7 @@ module _ (lines others : List DeductionLine) (l : DeductionLine) (same : (n : �
   barred_small (universal_instance d t) c s = tt
   barred_small (generalization d a) c s = s
   barred_small (existential d t) c s = tt
-  barred_small (choice e k d a) c s = (c.0, (omega arith, s))
+  barred_small (choice e k d a) c s = (c.0, (own, s))
   barred_small (conversion d) c s = tt
   barred_small (assignments ds) c s = tt
   barred_small planned c s = tt
@@ -248,12 +249,11 @@ module _ (lines others : List DeductionLine) (l : DeductionLine) (same : (n : �
   there_stays [] s h = tt
   there_stays (n ∷ ns) s h = (still_there n s.0 h.0, there_stays ns s.1 h.1)
 
-  pub stays : IsJustified lines l → IsJustified others l
-  stays j =
-      let small : Small (named_by l) = each_weaker (λ n. is_late l n ≡ false) (λ n. n ≤ l.number) (named_by l) (early_small l) (none_found (is_late l) (named_by l) j.earlier) in
-      let parts = both_each (λ n. n ≤ l.number) (cited l.why) l.hypotheses small in
+  stays_by : AllByRecursion Named (named_by l) → IsJustified lines l → IsJustified others l
+  stays_by named j =
+      let parts = both_each Named (cited l.why) l.hypotheses named in
       record {
-        there = found_none (is_missing others l) (named_by l) (there_stays (named_by l) small (none_found (is_missing lines l) (named_by l) j.there));
+        there = found_none (is_missing others l) (named_by l) (there_stays (named_by l) named (none_found (is_missing lines l) (named_by l) j.there));
         earlier = j.earlier;
         shape = shape_stays l.why parts.0 j.shape;
         hypotheses = hypotheses_stay parts.0 parts.1 j.hypotheses;
@@ -262,6 +262,12 @@ module _ (lines others : List DeductionLine) (l : DeductionLine) (same : (n : �
         converted = converted_stays l.why parts.0 j.converted;
         typed = typed_stays l.why parts.0 j.typed;
       }
+
+-- by lines that say the same up to its number
+pub stays : (lines others : List DeductionLine) (l : DeductionLine) → ((n : ℕ) → n ≤ l.number → SayTheSame (line_of lines n) (line_of others n)) → IsJustified lines l → IsJustified others l
+stays lines others l same j =
+    stays_by lines others l (λ n. n ≤ l.number) (omega arith) (λ n small other. same n small)
+    (each_weaker (λ n. is_late l n ≡ false) (λ n. n ≤ l.number) (named_by l) (early_small l) (none_found (is_late l) (named_by l) j.earlier)) j
 
 -- a line put in is the line of its number alone
 line_put : (lines : List DeductionLine) (m : DeductionLine) (n : ℕ) → n < m.number → line_of (with_line lines m) n ≡ line_of lines n
@@ -272,7 +278,7 @@ line_put (x ∷ xs) m n less = go (nat_lt x.number m.number) (line_put xs m n le
     go true rest = ap (λ o. cond (x.number == n) (Some x) o) rest
     go false rest = elim (eqb_tells m.number n) [ inl same ↦ absurd (omega (arith, same.1)) | inr other ↦ ap (λ b. cond b (Some m) (line_of (x ∷ xs) n)) other.0 ]
 
-alike : (o : Option DeductionLine) → SayTheSame o o
+pub alike : (o : Option DeductionLine) → SayTheSame o o
 alike None = tt
 alike (Some m) = record { formula = refl; hypotheses = refl; assumed = λ h. h }
 
@@ -280,8 +286,43 @@ pub stays_under_later : (lines : List DeductionLine) (l m : DeductionLine) → l
 stays_under_later lines l m later j =
     stays lines (with_line lines m) l (λ n small. let P : Option DeductionLine → Type 0 = λ o. SayTheSame (line_of lines n) o in subst P (sym (line_put lines m n (omega (arith, later, small)))) (alike (line_of lines n))) j
 
+-- another line is as it was, where one is put in
+pub other_put : (lines : List DeductionLine) (m : DeductionLine) (n : ℕ) → n ≢ m.number → line_of (with_line lines m) n ≡ line_of lines n
+other_put [] m n differ = elim (eqb_tells m.number n) [ inl same ↦ absurd (differ (sym same.1)) | inr other ↦ ap (λ b. cond b (Some m) None) other.0 ]
+other_put (x ∷ xs) m n differ = go (nat_lt x.number m.number) (other_put xs m n differ)
+  where
+    go : (b : Bool) → line_of (with_line xs m) n ≡ line_of xs n → line_of (cond b (x ∷ with_line xs m) (m ∷ x ∷ xs)) n ≡ line_of (x ∷ xs) n
+    go true rest = ap (λ o. cond (x.number == n) (Some x) o) rest
+    go false rest = elim (eqb_tells m.number n) [ inl same ↦ absurd (differ (sym same.1)) | inr other ↦ ap (λ b. cond b (Some m) (line_of (x ∷ xs) n)) other.0 ]
+
+-- a line named is none that is missing
+named_elsewhere : (lines : List DeductionLine) (l : DeductionLine) (k n : ℕ) → line_of lines k ≡ None → k ≢ l.number → is_missing lines l n ≡ false → n ≢ k
+named_elsewhere lines l k n none differ there same =
+    let other : (k == l.number) ≡ false = elim (eqb_tells k l.number) [ inl here ↦ absurd (differ here.1) | inr other ↦ other.0 ] in
+    let missing : is_none (line_with lines l k) ≡ true = ap (λ b. is_none (cond b (Some l) (line_of lines k))) other ∙ ap is_none none in
+    true_isnt_false (sym missing ∙ subst (λ (m : ℕ). is_missing lines l m ≡ false) same there)
+
+pub stays_under_others : (lines : List DeductionLine) (l m : DeductionLine) → line_of lines m.number ≡ None → l.number ≢ m.number → IsJustified lines l → IsJustified (with_line lines m) l
+stays_under_others lines l m none differ j =
+    stays_by lines (with_line lines m) l (λ n. n ≢ m.number) differ
+    (λ n other own. let P : Option DeductionLine → Type 0 = λ o. SayTheSame (line_of lines n) o in subst P (sym (other_put lines m n other)) (alike (line_of lines n)))
+    (
+    each_weaker (λ n. is_missing lines l n ≡ false) (λ n. n ≢ m.number) (named_by l)
+    (λ n there. named_elsewhere lines l m.number n none (λ e. differ (sym e)) there)
+    (none_found (is_missing lines l) (named_by l) j.there)
+    )
+    j
+
+-- and a line that is put in itself
+pub stays_put_in : (lines : List DeductionLine) (l : DeductionLine) → IsJustified lines l → IsJustified (with_line lines l) l
+stays_put_in lines l j =
+    stays_by lines (with_line lines l) l (λ n. Unit {0}) tt
+    (λ n any other. let P : Option DeductionLine → Type 0 = λ o. SayTheSame (line_of lines n) o in subst P (sym (other_put lines l n other)) (alike (line_of lines n)))
+    (each_weaker (λ n. is_missing lines l n ≡ false) (λ n. Unit {0}) (named_by l) (λ n there. tt) (none_found (is_missing lines l) (named_by l) j.there))
+    j
+
 -- another line is as it was, where one gets a justification
-other_line : (lines : List DeductionLine) (k : ℕ) (w : Justification) (n : ℕ) → n ≢ k → line_of (with_why lines k w) n ≡ line_of lines n
+pub other_line : (lines : List DeductionLine) (k : ℕ) (w : Justification) (n : ℕ) → n ≢ k → line_of (with_why lines k w) n ≡ line_of lines n
 other_line [] k w n differ = refl
 other_line (x ∷ xs) k w n differ = go (x.number == k) refl (other_line xs k w n differ)
   where

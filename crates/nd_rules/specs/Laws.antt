@@ -1,5 +1,5 @@
 -- Laws of outlines that grow. Each is the clause of a function of the module `laws`.
-use Rattle.std.specs.Prelude.{◌≡◌, ℕ, ◌<◌, ◌≤◌, List, Option, Some, None}
+use Rattle.std.specs.Prelude.{◌≡◌, ◌≢◌, ℕ, ◌<◌, ◌≤◌, List, Option, Some, None}
 use Rattle.nd_rules.specs.Lines.{Justification, hypothesis, planned, DeductionLine, line_of}
 use Rattle.nd_rules.specs.Outlines.{with_line, with_why}
 use Rattle.nd_rules.specs.Rules.{IsJustified}
@@ -26,6 +26,15 @@ StaysJustified =
 -- so it stays justified where a line with a greater number is added
 abbrev pub StaysUnderLater : Type 0
 StaysUnderLater = (lines : List DeductionLine) (l m : DeductionLine) → l.number < m.number → IsJustified lines l → IsJustified (with_line lines m) l
+
+-- and where any other line is added
+abbrev pub StaysUnderOthers : Type 0
+StaysUnderOthers =
+    (lines : List DeductionLine) (l m : DeductionLine) → line_of lines m.number ≡ None → l.number ≢ m.number → IsJustified lines l → IsJustified (with_line lines m) l
+
+-- and where it is put in itself
+abbrev pub StaysPutIn : Type 0
+StaysPutIn = (lines : List DeductionLine) (l : DeductionLine) → IsJustified lines l → IsJustified (with_line lines l) l
 
 -- line n has no justification yet, where it is there
 abbrev pub IsPlannedAt : List DeductionLine → ℕ → Type 0

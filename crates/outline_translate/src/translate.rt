@@ -20,6 +20,7 @@ use crate::links::{Choice, Instance};
 use exp_check::accepted::Accepted;
 use hol_terms::lists::{Hyps, Numbers};
 use hol_terms::terms::{Tm, copy};
+use nd_rules::naming::with_more;
 use nd_rules::outlines::Outline;
 use nd_steps::deductions::Deduction;
 use nd_steps::derived::Contradiction;
@@ -72,17 +73,6 @@ fn instance_lines(
     Ok(numbers)
 }
 
-/// The numbers with those of the hypotheses behind them.
-fn with_hypotheses(numbers: Numbers, hyps: &Hyps) -> Result<Numbers, AllocError>
-    ensures { IfOk result (λ all. all ≡ numbers ++ hyps.now) }
-{
-    let mut all = numbers;
-    for n in hyps.as_slice() {
-        all.push(*n)?;
-    }
-    Ok(all)
-}
-
 /// FALSEHOOD from the hypotheses and the lines of these numbers, by one line.
 fn contradict(
     alloc: Global,
@@ -95,7 +85,7 @@ fn contradict(
     ensures deduction { OnOk result (IsDeduction deduction.new) }
 {
     let _ = deduction.len();
-    let sources = with_hypotheses(numbers, hyps)?;
+    let sources = with_more(numbers, hyps.as_slice())?;
     deduction.follow(alloc, hyps, sources, falsehood())
 }
 

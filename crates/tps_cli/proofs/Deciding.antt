@@ -1,21 +1,45 @@
 -- What the steps of a command decide.
-use Rattle.std.proofs.Common.{◌≡◌, ◌↔◌, ℕ, List, Bool, false, true, IsTrue, refl, subst}
+use Rattle.std.proofs.Common.{◌≡◌, ◌∙◌, ℕ, List, Some, ap, refl, subst, sym}
 use Rattle.proof_text.specs.Texts.{Proof, IsProofText}
 use Rattle.exp_check.specs.Proofs.{IsProof}
-use Rattle.tps_cli.specs.Checks.{HoldsProof}
-use Rattle.tps_cli.specs.Words.{words_of}
+use Rattle.core_text.specs.Words.{numeral_of}
+use Rattle.tps_cli.specs.Proofs.{HoldsProof}
+use Rattle.tps_cli.specs.Words.{AreWordsOf}
 use Rattle.tps_cli.specs.declared.command.Command.{Command}
-use Rattle.tps_cli.specs.declared.command.Command.TheVariants.{Check, Verify}
+use Rattle.tps_cli.specs.declared.command.Command.TheVariants.{Check, Translate, Verify, Show, Generate}
 
 -- a proof text that isn't a proof holds none
-pub holds_none : (bytes : List ℕ) (p : Proof) (b : Bool) → (IsTrue b ↔ IsProof p) → b ≡ false → ((q : Proof) → IsProofText bytes q → q ≡ p) → HoldsProof bytes → ⊥
-holds_none bytes p b decides isnt only held =
+pub holds_none : (bytes : List ℕ) (p : Proof) → (IsProof p → ⊥) → ((q : Proof) → IsProofText bytes q → q ≡ p) → HoldsProof bytes → ⊥
+holds_none bytes p isnt only held =
     let same : held.0 ≡ p = only held.0 held.1 in
-    let yes : b ≡ true = decides.1 (subst (λ (q : Proof). IsProof q) same held.2) in cc
+    isnt (subst (λ (q : Proof). IsProof q) same held.2)
 
--- the words of a command are those of no other
-pub words_one : (c d : Command) → words_of c ≡ words_of d → c ≡ d
-words_one Check Check e = refl
-words_one Check Verify e = cc
-words_one Verify Check e = cc
-words_one Verify Verify e = refl
+-- words ask for one command
+pub words_one : (c d : Command) (words : List (List ℕ)) → AreWordsOf c words → AreWordsOf d words → c ≡ d
+words_one Check Check words e f = refl
+words_one Check Translate words e f = cc
+words_one Check Verify words e f = cc
+words_one Check Show words e f = cc
+words_one Check (Generate n) words e f = cc
+words_one Translate Check words e f = cc
+words_one Translate Translate words e f = refl
+words_one Translate Verify words e f = cc
+words_one Translate Show words e f = cc
+words_one Translate (Generate n) words e f = cc
+words_one Verify Check words e f = cc
+words_one Verify Translate words e f = cc
+words_one Verify Verify words e f = refl
+words_one Verify Show words e f = cc
+words_one Verify (Generate n) words e f = cc
+words_one Show Check words e f = cc
+words_one Show Translate words e f = cc
+words_one Show Verify words e f = cc
+words_one Show Show words e f = refl
+words_one Show (Generate n) words e f = cc
+words_one (Generate n) Check words e f = cc
+words_one (Generate n) Translate words e f = cc
+words_one (Generate n) Verify words e f = cc
+words_one (Generate n) Show words e f = cc
+words_one (Generate n) (Generate m) words (w, e, number, within) (v, f, number', within') =
+    let same : w ≡ v = cc in
+    let numbers : Some n ≡ Some m = sym number ∙ ap numeral_of same ∙ number' in cc

@@ -1,7 +1,12 @@
 pub mod Checks
+pub mod Derivations
+pub mod Generates
 pub mod Outcomes
+pub mod Proofs
 pub mod Results
 pub mod Runs
+pub mod Shows
 pub mod Statuses
+pub mod Translates
 pub mod Verifies
 pub mod Words

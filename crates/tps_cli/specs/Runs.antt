@@ -7,7 +7,7 @@ use Rattle.tps_cli.specs.declared.run.TheConstants.{LONGEST_INPUT}
 use Rattle.tps_cli.specs.declared.command.Command.{Command}
 use Rattle.tps_cli.specs.declared.status.Status.{Status}
 use Rattle.tps_cli.specs.declared.status.Status.TheVariants.{Done, No, Words, BadText, TooLong, ReadFault, WriteFault, Memory}
-use Rattle.tps_cli.specs.Results.{Answers}
+use Rattle.tps_cli.specs.Results.{Answers, ReadsInput}
 
 -- one end of a run: what the source has left and the sink has taken, where they tell it, and how many of their calls failed
 pub record Ends : Type 0 where
@@ -19,14 +19,23 @@ pub record Ends : Type 0 where
 abbrev pub NoReadFault : Ends → Ends → Type 0
 NoReadFault old new = new.read_faults ≡ old.read_faults
 
--- all bytes that the source had were read, no more than a command reads and with no fault, and the command answers to them this
--- status and this output
+-- all bytes that the source had were read, no more than a command reads and with no fault
+pub record IsWholeInput (left left' : Option (List ℕ)) (faults faults' : ℕ) (bytes : List ℕ) : Type 0 where
+  pub read : TakesAll left left' bytes
+  pub within : length bytes ≤ LONGEST_INPUT
+  pub calm : faults' ≡ faults
+
+-- what was read of the input, where these were left and counted before and behind it: all of it where the command reads it, and nothing
+-- where it doesn't
+abbrev pub WasRead : Command → Option (List ℕ) → Option (List ℕ) → ℕ → ℕ → List ℕ → Type 0
+WasRead c left left' faults faults' bytes =
+    (ReadsInput c → IsWholeInput left left' faults faults' bytes) × ((ReadsInput c → ⊥) → (left' ≡ left) × (faults' ≡ faults))
+
+-- the command answers this status and this output to what was read
 pub record Answered (c : Command) (old new : Ends) (status : Status) (out : List ℕ) : Type 0 where
   pub bytes : List ℕ
-  pub read : TakesAll old.left new.left bytes
-  pub within : length bytes ≤ LONGEST_INPUT
+  pub read : WasRead c old.left new.left old.read_faults new.read_faults bytes
   pub answer : Answers c bytes status out
-  pub calm : NoReadFault old new
 
 -- nothing was written, and the sink didn't fail
 abbrev pub NothingWritten : Ends → Ends → Type 0
@@ -46,7 +55,7 @@ Ran c old new Done = Finished c old new Done
 Ran c old new No = Finished c old new No
 Ran c old new Words = ⊥
 Ran c old new BadText = Answered c old new BadText [] × NothingWritten old new
-Ran c old new TooLong = HeldMore old.left LONGEST_INPUT × NothingWritten old new × NoReadFault old new
-Ran c old new ReadFault = Rose old.read_faults new.read_faults × NothingWritten old new
+Ran c old new TooLong = ReadsInput c × HeldMore old.left LONGEST_INPUT × NothingWritten old new × NoReadFault old new
+Ran c old new ReadFault = ReadsInput c × Rose old.read_faults new.read_faults × NothingWritten old new
 Ran c old new WriteFault = CutShort c old new Done ⊎ CutShort c old new No
 Ran c old new Memory = NothingWritten old new

@@ -1,13 +1,27 @@
 -- The words of the commands.
-use Rattle.std.specs.Prelude.{◌≡◌, ℕ, List, [], ◌∷◌, map, codes, string_bytes, String}
+use Rattle.std.specs.Prelude.{◌≡◌, ◌≤◌, ℕ, List, [], ◌∷◌, map, codes, string_bytes, String, Some}
 use Rattle.std.specs.declared.alloc.Global.{Global}
+use Rattle.core_text.specs.Words.{numeral_of}
+use Rattle.tps_cli.specs.declared.command.TheConstants.{LONGEST_CHAIN}
 use Rattle.tps_cli.specs.declared.command.Command.{Command}
-use Rattle.tps_cli.specs.declared.command.Command.TheVariants.{Check, Verify}
+use Rattle.tps_cli.specs.declared.command.Command.TheVariants.{Check, Translate, Verify, Show, Generate}
 
-abbrev pub words_of : Command → List (List ℕ)
-words_of Check = codes "check" ∷ []
-words_of Verify = codes "verify" ∷ []
+-- a chain has at least one instance, and no more than the longest
+abbrev pub IsCommand : Command → Type 0
+IsCommand Check = Unit {0}
+IsCommand Translate = Unit {0}
+IsCommand Verify = Unit {0}
+IsCommand Show = Unit {0}
+IsCommand (Generate n) = (1 ≤ n) × (n ≤ LONGEST_CHAIN)
+
+-- the words ask for the command
+abbrev pub AreWordsOf : Command → List (List ℕ) → Type 0
+AreWordsOf Check words = words ≡ codes "check" ∷ []
+AreWordsOf Translate words = words ≡ codes "translate" ∷ []
+AreWordsOf Verify words = words ≡ codes "verify" ∷ []
+AreWordsOf Show words = words ≡ codes "show" ∷ []
+AreWordsOf (Generate n) words = (word : List ℕ) × (words ≡ codes "generate" ∷ word ∷ []) × (numeral_of word ≡ Some n) × IsCommand (Generate n)
 
 -- the words are those of a command
 abbrev pub AreWords : List (String Global) → Type 0
-AreWords words = (c : Command) × (map string_bytes words ≡ words_of c)
+AreWords words = (c : Command) × AreWordsOf c (map string_bytes words)

@@ -4,8 +4,13 @@
 mod answer;
 mod check;
 mod command;
+mod derivation;
+mod generate;
+mod proof;
 mod run;
+mod show;
 mod status;
+mod translate;
 mod verify;
 
 use crate::run::run;

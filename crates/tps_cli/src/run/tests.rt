@@ -16,13 +16,24 @@ fn run_on(
     failing_reads: Vec<u64>,
     failing_writes: Vec<u64>,
 ) -> Result<(Status, Vec<u8>), AllocError> {
+    run_on_bytes(alloc, words, text.as_bytes(), failing_reads, failing_writes)
+}
+
+/// The same of bytes.
+fn run_on_bytes(
+    alloc: Global,
+    words: &str,
+    bytes: &[u8],
+    failing_reads: Vec<u64>,
+    failing_writes: Vec<u64>,
+) -> Result<(Status, Vec<u8>), AllocError> {
     let mut owned = Vec::new(alloc);
     for word in words.split_whitespace() {
         owned.push(String::from_str(alloc, word)?)?;
     }
-    let bytes = Vec::from_slice(alloc, text.as_bytes())?;
+    let bytes = Vec::from_slice(alloc, bytes)?;
     let mut source = MemSource::new(bytes, 10, failing_reads);
-    let mut sink = MemSink::new(alloc, 3, 64, failing_writes)?;
+    let mut sink = MemSink::new(alloc, 3, 4096, failing_writes)?;
     let status = run(alloc, &owned, &mut source, &mut sink);
     Ok((status, Vec::from_slice(alloc, sink.bytes())?))
 }
@@ -74,7 +85,17 @@ fn a_cut_text_is_none(rt: HostRuntime) -> Result<(), Fail> {
 #[test]
 fn other_words_do_nothing(rt: HostRuntime) -> Result<(), Fail> {
     let alloc = rt.alloc();
-    for words in ["", "Check", "check x"] {
+    for words in [
+        "",
+        "Check",
+        "check x",
+        "generate",
+        "generate 0",
+        "generate 101",
+        "generate 007",
+        "generate 1 1",
+        "show 1",
+    ] {
         let (status, written) = run_on(alloc, words, PROOF, Vec::new(alloc), Vec::new(alloc))?;
         assert_eq!(rt; status, Status::Words);
         assert!(rt; written.is_empty());
@@ -132,5 +153,72 @@ fn derivations_are_verified(rt: HostRuntime) -> Result<(), Fail> {
         assert_eq!(rt; status, wanted);
         assert_eq!(rt; written.as_slice(), line.as_bytes());
     }
+    Ok(())
+}
+
+#[test]
+fn derivations_are_shown(rt: HostRuntime) -> Result<(), Fail> {
+    let alloc = rt.alloc();
+    for (text, wanted, lines) in [
+        (
+            "(DERIVATION 1 (1 (1) (V p O) (P)) (2 () (A (A IMPLIES (V p O)) (V p O)) (DEDUCT 1 1)))",
+            Status::Done,
+            "1 {1} |- p(O) : P\n2 {} |- p(O) IMPLIES p : DEDUCT 1 1\n",
+        ),
+        (
+            "(DERIVATION 1 (1 () (V p O) (RULEP)))",
+            Status::No,
+            "LINE 1 NOTFOLLOWS\n",
+        ),
+        ("(DERIVATION 1)", Status::BadText, ""),
+    ] {
+        let (status, written) = run_on(alloc, "show", text, Vec::new(alloc), Vec::new(alloc))?;
+        assert_eq!(rt; status, wanted);
+        assert_eq!(rt; written.as_slice(), lines.as_bytes());
+    }
+    Ok(())
+}
+
+#[test]
+fn proofs_are_translated(rt: HostRuntime) -> Result<(), Fail> {
+    let alloc = rt.alloc();
+    let (status, written) = run_on(alloc, "translate", PROOF, Vec::new(alloc), Vec::new(alloc))?;
+    assert_eq!(rt; status, Status::Done);
+    let (status, written) = run_on_bytes(
+        alloc,
+        "verify",
+        written.as_slice(),
+        Vec::new(alloc),
+        Vec::new(alloc),
+    )?;
+    assert_eq!(rt; status, Status::Done);
+    assert_eq!(rt;
+        written.as_slice(),
+        b"VERIFIED (A (A OR (V p O)) (A NOT (V p O)))\n".as_slice()
+    );
+    let open = "(PROOF 1 (A (A OR (V p O)) (A NOT (V p O))) (OR LEAF (NOT LEAF)) ())";
+    let (status, written) = run_on(alloc, "translate", open, Vec::new(alloc), Vec::new(alloc))?;
+    assert_eq!(rt; status, Status::No);
+    assert_eq!(rt; written.as_slice(), b"REJECTED\n".as_slice());
+    Ok(())
+}
+
+#[test]
+fn chains_are_generated(rt: HostRuntime) -> Result<(), Fail> {
+    let alloc = rt.alloc();
+    // The input isn't read, so its faults don't come.
+    let first = Vec::from_slice(alloc, &[1])?;
+    let (status, written) = run_on(alloc, "generate 1", "", first, Vec::new(alloc))?;
+    assert_eq!(rt; status, Status::Done);
+    assert_eq!(rt;
+        written.as_slice(),
+        b"CHAIN 1\nLEAVES 4\nPAIRS 2\nOCCURRENCES 1\nWEIGHT 1\nACCEPTED\nVERIFIED\n".as_slice()
+    );
+    let (status, written) = run_on(alloc, "generate 100", "", Vec::new(alloc), Vec::new(alloc))?;
+    assert_eq!(rt; status, Status::Done);
+    assert_eq!(rt;
+        written.as_slice(),
+        b"CHAIN 100\nLEAVES 202\nPAIRS 101\nOCCURRENCES 100\nWEIGHT 5050\nACCEPTED\nVERIFIED\n".as_slice()
+    );
     Ok(())
 }

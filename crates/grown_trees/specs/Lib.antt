@@ -1,0 +1,4 @@
+pub mod Growths
+pub mod Laws
+pub mod Searches
+pub mod Targets

@@ -1,0 +1,10 @@
+pub mod More
+pub mod Staged
+pub mod Keeping
+pub mod Extended
+pub mod Beginning
+pub mod Levelling
+pub mod Reaching
+pub mod Least
+pub mod Mated
+pub mod Searching

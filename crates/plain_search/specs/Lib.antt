@@ -1,0 +1,5 @@
+pub mod Levels
+pub mod Proofs
+pub mod Searching
+pub mod Tasks
+pub mod Trials

@@ -1,0 +1,4 @@
+//! Expansion proofs that are generated, of each length.
+#![tactic(auto)]
+
+pub mod chains;

@@ -1,0 +1,4 @@
+pub mod Extending
+pub mod Growths
+pub mod Kinds
+pub mod Wrapped
