@@ -3,7 +3,7 @@
 here=$(cd "$(dirname "${BASH_SOURCE[0]}")" && pwd)
 crate=$here/crates/tps_cli
 program=$crate/out/tps_cli
-if [ ! -x "$program" ] || [ -n "$(find "$here/crates" -name '*.rt' -newer "$program" -print -quit)" ]; then
+if [ ! -x "$program" ] || [ -n "$(find "$here"/crates/*/src -name '*.rt' -newer "$program" -print -quit)" ]; then
   echo 'tps: building the program, some minutes the first time' >&2
   log=$(cd "$crate" && rt run < /dev/null 2>&1)
   if [ ! -x "$program" ]; then

@@ -3,10 +3,12 @@ use Rattle.std.proofs.Common.{◌≡◌, ◌∙◌, ℕ, List, Some, ap, refl, s
 use Rattle.proof_text.specs.Texts.{Proof, IsProofText}
 use Rattle.exp_check.specs.Proofs.{IsProof}
 use Rattle.core_text.specs.Words.{numeral_of}
+use Rattle.tps_cli.specs.Options.{AreOptions}
 use Rattle.tps_cli.specs.Proofs.{HoldsProof}
 use Rattle.tps_cli.specs.Words.{AreWordsOf}
+use Rattle.tps_cli.proofs.Options.{options_one}
 use Rattle.tps_cli.specs.declared.command.Command.{Command}
-use Rattle.tps_cli.specs.declared.command.Command.TheVariants.{Check, Translate, Verify, Show, Generate}
+use Rattle.tps_cli.specs.declared.command.Command.TheVariants.{Prove, Check, Translate, Verify, Show, Generate}
 
 -- a proof text that isn't a proof holds none
 pub holds_none : (bytes : List ℕ) (p : Proof) → (IsProof p → ⊥) → ((q : Proof) → IsProofText bytes q → q ≡ p) → HoldsProof bytes → ⊥
@@ -16,6 +18,19 @@ holds_none bytes p isnt only held =
 
 -- words ask for one command
 pub words_one : (c d : Command) (words : List (List ℕ)) → AreWordsOf c words → AreWordsOf d words → c ≡ d
+words_one (Prove b) (Prove c) words (os, e, options, within) (ps, f, options', within') =
+    let same : os ≡ ps = cc in
+    let budgets : b ≡ c = options_one b c ps (subst (λ (ws : List (List ℕ)). AreOptions b ws) same options) options' in ap Prove budgets
+words_one (Prove b) Check words e f = cc
+words_one (Prove b) Translate words e f = cc
+words_one (Prove b) Verify words e f = cc
+words_one (Prove b) Show words e f = cc
+words_one (Prove b) (Generate n) words e f = cc
+words_one Check (Prove b) words e f = cc
+words_one Translate (Prove b) words e f = cc
+words_one Verify (Prove b) words e f = cc
+words_one Show (Prove b) words e f = cc
+words_one (Generate n) (Prove b) words e f = cc
 words_one Check Check words e f = refl
 words_one Check Translate words e f = cc
 words_one Check Verify words e f = cc

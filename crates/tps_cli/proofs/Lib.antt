@@ -1,3 +1,4 @@
 pub mod Deciding
 pub mod Generating
+pub mod Options
 pub mod Showing

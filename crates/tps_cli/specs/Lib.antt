@@ -1,8 +1,10 @@
 pub mod Checks
 pub mod Derivations
 pub mod Generates
+pub mod Options
 pub mod Outcomes
 pub mod Proofs
+pub mod Proves
 pub mod Results
 pub mod Runs
 pub mod Shows

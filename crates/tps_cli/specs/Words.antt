@@ -2,12 +2,15 @@
 use Rattle.std.specs.Prelude.{◌≡◌, ◌≤◌, ℕ, List, [], ◌∷◌, map, codes, string_bytes, String, Some}
 use Rattle.std.specs.declared.alloc.Global.{Global}
 use Rattle.core_text.specs.Words.{numeral_of}
+use Rattle.tps_cli.specs.Options.{AreOptions}
+use Rattle.tps_cli.specs.declared.options.TheConstants.{GREATEST_WEIGHT, GREATEST_LEVEL}
 use Rattle.tps_cli.specs.declared.command.TheConstants.{LONGEST_CHAIN}
 use Rattle.tps_cli.specs.declared.command.Command.{Command}
-use Rattle.tps_cli.specs.declared.command.Command.TheVariants.{Check, Translate, Verify, Show, Generate}
+use Rattle.tps_cli.specs.declared.command.Command.TheVariants.{Prove, Check, Translate, Verify, Show, Generate}
 
--- a chain has at least one instance, and no more than the longest
+-- a budget is up to the greatest weight and level, and a chain has at least one instance, and no more than the longest
 abbrev pub IsCommand : Command → Type 0
+IsCommand (Prove b) = (b.weight ≤ GREATEST_WEIGHT) × (b.level ≤ GREATEST_LEVEL)
 IsCommand Check = Unit {0}
 IsCommand Translate = Unit {0}
 IsCommand Verify = Unit {0}
@@ -16,6 +19,7 @@ IsCommand (Generate n) = (1 ≤ n) × (n ≤ LONGEST_CHAIN)
 
 -- the words ask for the command
 abbrev pub AreWordsOf : Command → List (List ℕ) → Type 0
+AreWordsOf (Prove b) words = (options : List (List ℕ)) × (words ≡ codes "prove" ∷ options) × AreOptions b options × IsCommand (Prove b)
 AreWordsOf Check words = words ≡ codes "check" ∷ []
 AreWordsOf Translate words = words ≡ codes "translate" ∷ []
 AreWordsOf Verify words = words ≡ codes "verify" ∷ []

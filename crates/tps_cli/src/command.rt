@@ -4,6 +4,7 @@ ghost use Rattle.std.specs.Prelude.{◌≡◌, ◌∷◌, MatchOption, [], codes
 ghost use Rattle.tps_cli.specs.declared.command.Command.{Command};
 ghost use Rattle.tps_cli.specs.Words.{AreWordsOf};
 
+use crate::options::{Budget, budget_of};
 use core_text::words::numeral;
 
 /// The most instances that a generated chain has.
@@ -12,6 +13,8 @@ pub const LONGEST_CHAIN: u64 = 100;
 /// What the program is asked to do.
 #[derive(Clone, Copy, Debug, PartialEq, Eq)]
 pub enum Command {
+    /// `prove`: an expansion proof of a formula, of least weight in the budget.
+    Prove(Budget),
     /// `check`: whether the input is the text of an expansion proof.
     Check,
     /// `translate`: a derivation of the formula of an expansion proof.
@@ -37,13 +40,10 @@ fn command_of(word: &str) -> Option<Command>
     }
 }
 
-/// The command of a word and a number.
-fn numbered_command_of(word: &str, number: &str) -> Option<Command>
-    ensures { MatchOption result ((c : Command) → AreWordsOf c (word.now ∷ number.now ∷ []) → ⊥) (λ c. AreWordsOf c (word.now ∷ number.now ∷ [])) }
+/// The command `generate` with the number of instances.
+fn generation(number: &str) -> Option<Command>
+    ensures { MatchOption result ((c : Command) → AreWordsOf c (codes "generate" ∷ number.now ∷ []) → ⊥) (λ c. AreWordsOf c (codes "generate" ∷ number.now ∷ [])) }
 {
-    if word != "generate" {
-        return None;
-    }
     match numeral(number.as_bytes()) {
         Some(n) => {
             if 1 <= n && n <= LONGEST_CHAIN {
@@ -56,15 +56,36 @@ fn numbered_command_of(word: &str, number: &str) -> Option<Command>
     }
 }
 
+/// The command `prove` with its options.
+fn proving(options: &[String]) -> Option<Command>
+    ensures { MatchOption result ((c : Command) → AreWordsOf c (codes "prove" ∷ map string_bytes options.now) → ⊥) (λ c. AreWordsOf c (codes "prove" ∷ map string_bytes options.now)) }
+{
+    match budget_of(options) {
+        Some(budget) => Some(Command::Prove(budget)),
+        None => None,
+    }
+}
+
+/// The command of a word and those behind it.
+fn command_with(word: &str, others: &[String]) -> Option<Command>
+    ensures { MatchOption result ((c : Command) → AreWordsOf c (word.now ∷ map string_bytes others.now) → ⊥) (λ c. AreWordsOf c (word.now ∷ map string_bytes others.now)) }
+{
+    match (word, others) {
+        ("prove", options) => proving(options),
+        ("generate", [number]) => generation(number.as_str()),
+        (_, []) => command_of(word),
+        _ => None,
+    }
+}
+
 impl Command {
     /// The command that the words ask for, `None` exactly where they ask for none.
     pub fn from_words(words: &[String]) -> Option<Command>
         ensures { MatchOption result ((c : Command) → AreWordsOf c (map string_bytes words.now) → ⊥) (λ c. AreWordsOf c (map string_bytes words.now)) }
     {
         match words {
-            [word] => command_of(word.as_str()),
-            [word, number] => numbered_command_of(word.as_str(), number.as_str()),
-            _ => None,
+            [word, others @ ..] => command_with(word.as_str(), others),
+            [] => None,
         }
     }
 }

@@ -13,6 +13,7 @@ use crate::answer::Answer;
 use crate::check::check;
 use crate::command::Command;
 use crate::generate::generate;
+use crate::prove::prove;
 use crate::show::show;
 use crate::status::Status;
 use crate::translate::translate;
@@ -43,6 +44,7 @@ fn answer(alloc: Global, command: Command, bytes: &[u8]) -> Result<Answer, Alloc
     ensures { IfOk result (λ answer. Answers command bytes.now (status_of answer) (output_of answer)) }
 {
     match command {
+        Command::Prove(budget) => prove(alloc, budget, bytes),
         Command::Check => check(alloc, bytes),
         Command::Translate => translate(alloc, bytes),
         Command::Verify => verify(alloc, bytes),

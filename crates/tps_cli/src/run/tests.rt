@@ -95,6 +95,12 @@ fn other_words_do_nothing(rt: HostRuntime) -> Result<(), Fail> {
         "generate 007",
         "generate 1 1",
         "show 1",
+        "Prove",
+        "prove 6",
+        "prove --weight 65",
+        "prove --weight 06",
+        "prove --weight 1 --weight 2",
+        "prove --level 3",
     ] {
         let (status, written) = run_on(alloc, words, PROOF, Vec::new(alloc), Vec::new(alloc))?;
         assert_eq!(rt; status, Status::Words);
@@ -220,5 +226,21 @@ fn chains_are_generated(rt: HostRuntime) -> Result<(), Fail> {
         written.as_slice(),
         b"CHAIN 100\nLEAVES 202\nPAIRS 101\nOCCURRENCES 100\nWEIGHT 5050\nACCEPTED\nVERIFIED\n".as_slice()
     );
+    Ok(())
+}
+
+#[test]
+fn proofs_are_found(rt: HostRuntime) -> Result<(), Fail> {
+    let alloc = rt.alloc();
+    for (words, text, wanted, out) in [
+        ("prove --weight 0", "TRUTH", Status::Done, "(PROOF 1 TRUTH CONST ())\n"),
+        ("prove --level 0 --weight 0", "p OR ~ p", Status::Done, "(PROOF 1 (A (A OR (V p O)) (A NOT (V p O))) (OR LEAF (NOT LEAF)) ((1 2)))\n"),
+        ("prove --weight 1", "EXISTS x FORALL y. P(OI) x IMPLIES P y", Status::No, "UNKNOWN 1\n"),
+        ("prove", "P x", Status::BadText, ""),
+    ] {
+        let (status, written) = run_on(alloc, words, text, Vec::new(alloc), Vec::new(alloc))?;
+        assert_eq!(rt; status, wanted);
+        assert_eq!(rt; written.as_slice(), out.as_bytes());
+    }
     Ok(())
 }

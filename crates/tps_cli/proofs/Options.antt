@@ -1,0 +1,165 @@
+-- How the options of `prove` stand.
+use Rattle.std.proofs.Common.{◌≡◌, ◌⊎◌, ◌≤◌, ◌∙◌, ℕ, List, [], ◌∷◌, ◌++◌, Some, ap, codes, inl, inr, refl, sym}
+use Rattle.core_text.specs.Words.{numeral_of}
+use Rattle.tps_cli.specs.Options.{AreBudget, AreOptions, IsNumberUpTo, IsOption}
+use Rattle.tps_cli.specs.declared.options.Budget.{Budget}
+use Rattle.tps_cli.specs.declared.options.TheConstants.{GREATEST_WEIGHT, GREATEST_LEVEL, USUAL_WEIGHT, USUAL_LEVEL}
+
+-- none, one of them, or both in one order or the other
+pub data Standing (b : Budget) (words : List (List ℕ)) : Type 0 where
+  no_option : words ≡ [] → b.weight ≡ USUAL_WEIGHT → b.level ≡ USUAL_LEVEL → Standing b words
+  weight_alone : (w : List ℕ) → words ≡ codes "--weight" ∷ w ∷ [] → IsNumberUpTo GREATEST_WEIGHT w b.weight → b.level ≡ USUAL_LEVEL → Standing b words
+  level_alone : (l : List ℕ) → words ≡ codes "--level" ∷ l ∷ [] → b.weight ≡ USUAL_WEIGHT → IsNumberUpTo GREATEST_LEVEL l b.level → Standing b words
+  weight_first : (w l : List ℕ) → words ≡ codes "--weight" ∷ w ∷ codes "--level" ∷ l ∷ [] → AreBudget b w l → Standing b words
+  level_first : (w l : List ℕ) → words ≡ codes "--level" ∷ l ∷ codes "--weight" ∷ w ∷ [] → AreBudget b w l → Standing b words
+
+joined : (ws ls us vs : List (List ℕ)) → ws ≡ us → ls ≡ vs → ws ++ ls ≡ us ++ vs
+joined ws ls us vs e f = ap (λ (x : List (List ℕ)). x ++ ls) e ∙ ap (λ (x : List (List ℕ)). us ++ x) f
+
+by_cases :
+    (b : Budget) (words ws ls : List (List ℕ)) → IsOption (codes "--weight") USUAL_WEIGHT GREATEST_WEIGHT b.weight ws
+    → IsOption (codes "--level") USUAL_LEVEL GREATEST_LEVEL b.level ls → (words ≡ ws ++ ls) ⊎ (words ≡ ls ++ ws) → Standing b words
+by_cases b words ws ls (inl (e, u)) (inl (f, v)) (inl both) = no_option (both ∙ joined ws ls _ _ e f) u v
+by_cases b words ws ls (inl (e, u)) (inl (f, v)) (inr both) = no_option (both ∙ joined ls ws _ _ f e) u v
+by_cases b words ws ls (inl (e, u)) (inr (l, f, v)) (inl both) = level_alone l (both ∙ joined ws ls _ _ e f) u v
+by_cases b words ws ls (inl (e, u)) (inr (l, f, v)) (inr both) = level_alone l (both ∙ joined ls ws _ _ f e) u v
+by_cases b words ws ls (inr (w, e, u)) (inl (f, v)) (inl both) = weight_alone w (both ∙ joined ws ls _ _ e f) u v
+by_cases b words ws ls (inr (w, e, u)) (inl (f, v)) (inr both) = weight_alone w (both ∙ joined ls ws _ _ f e) u v
+by_cases b words ws ls (inr (w, e, u)) (inr (l, f, v)) (inl both) = weight_first w l (both ∙ joined ws ls _ _ e f) (u, v)
+by_cases b words ws ls (inr (w, e, u)) (inr (l, f, v)) (inr both) = level_first w l (both ∙ joined ls ws _ _ f e) (u, v)
+
+pub standing : (b : Budget) (words : List (List ℕ)) → AreOptions b words → Standing b words
+standing b words o = by_cases b words o.weight_words o.level_words o.weight o.level o.both
+
+budgets : (b c : Budget) → b.weight ≡ c.weight → b.level ≡ c.level → b ≡ c
+budgets b c e f = cc
+
+number_one : (greatest : ℕ) (v w : List ℕ) (m n : ℕ) → v ≡ w → IsNumberUpTo greatest v m → IsNumberUpTo greatest w n → m ≡ n
+number_one greatest v w m n same (e, within) (f, within') =
+    let numbers : Some m ≡ Some n = sym e ∙ ap numeral_of same ∙ f in cc
+
+both_one : (b c : Budget) (v w k l : List ℕ) → v ≡ w → k ≡ l → AreBudget b v k → AreBudget c w l → b ≡ c
+both_one b c v w k l e f (m, n) (m', n') = budgets b c (number_one GREATEST_WEIGHT v w _ _ e m m') (number_one GREATEST_LEVEL k l _ _ f n n')
+
+one : (b c : Budget) (words : List (List ℕ)) → Standing b words → Standing c words → b ≡ c
+one b c words (no_option e u v) (no_option f u' v') = budgets b c (u ∙ sym u') (v ∙ sym v')
+one b c words (no_option e u v) (weight_alone w f u' v') = cc
+one b c words (no_option e u v) (level_alone l f u' v') = cc
+one b c words (no_option e u v) (weight_first w l f n) = cc
+one b c words (no_option e u v) (level_first w l f n) = cc
+one b c words (weight_alone w e u v) (no_option f u' v') = cc
+one b c words (weight_alone w e u v) (weight_alone w' f u' v') =
+    let same : w ≡ w' = cc in budgets b c (number_one GREATEST_WEIGHT w w' _ _ same u u') (v ∙ sym v')
+one b c words (weight_alone w e u v) (level_alone l f u' v') = cc
+one b c words (weight_alone w e u v) (weight_first w' l f n) = cc
+one b c words (weight_alone w e u v) (level_first w' l f n) = cc
+one b c words (level_alone l e u v) (no_option f u' v') = cc
+one b c words (level_alone l e u v) (weight_alone w f u' v') = cc
+one b c words (level_alone l e u v) (level_alone l' f u' v') =
+    let same : l ≡ l' = cc in budgets b c (u ∙ sym u') (number_one GREATEST_LEVEL l l' _ _ same v v')
+one b c words (level_alone l e u v) (weight_first w l' f n) = cc
+one b c words (level_alone l e u v) (level_first w l' f n) = cc
+one b c words (weight_first w l e m) (no_option f u' v') = cc
+one b c words (weight_first w l e m) (weight_alone w' f u' v') = cc
+one b c words (weight_first w l e m) (level_alone l' f u' v') = cc
+one b c words (weight_first w l e m) (weight_first w' l' f n) =
+    let same : w ≡ w' = cc in
+    let same' : l ≡ l' = cc in both_one b c w w' l l' same same' m n
+one b c words (weight_first w l e m) (level_first w' l' f n) = cc
+one b c words (level_first w l e m) (no_option f u' v') = cc
+one b c words (level_first w l e m) (weight_alone w' f u' v') = cc
+one b c words (level_first w l e m) (level_alone l' f u' v') = cc
+one b c words (level_first w l e m) (weight_first w' l' f n) = cc
+one b c words (level_first w l e m) (level_first w' l' f n) =
+    let same : w ≡ w' = cc in
+    let same' : l ≡ l' = cc in both_one b c w w' l l' same same' m n
+
+-- words are the options of one budget
+pub options_one : (b c : Budget) (words : List (List ℕ)) → AreOptions b words → AreOptions c words → b ≡ c
+options_one b c words o p = one b c words (standing b words o) (standing c words p)
+
+within : (b : Budget) (words : List (List ℕ)) → Standing b words → (b.weight ≤ GREATEST_WEIGHT) × (b.level ≤ GREATEST_LEVEL)
+within b words (no_option e u v) = (omega u, omega v)
+within b words (weight_alone w e u v) = (u.1, omega v)
+within b words (level_alone l e u v) = (omega u, v.1)
+within b words (weight_first w l e n) = (n.0.1, n.1.1)
+within b words (level_first w l e n) = (n.0.1, n.1.1)
+
+pub options_within : (b : Budget) (words : List (List ℕ)) → AreOptions b words → (b.weight ≤ GREATEST_WEIGHT) × (b.level ≤ GREATEST_LEVEL)
+options_within b words o = within b words (standing b words o)
+
+-- Two words and four
+
+abbrev pub IsOne : Budget → List ℕ → List ℕ → Type 0
+IsOne b name number =
+    ((name ≡ codes "--weight") × IsNumberUpTo GREATEST_WEIGHT number b.weight × (b.level ≡ USUAL_LEVEL))
+    ⊎ ((name ≡ codes "--level") × (b.weight ≡ USUAL_WEIGHT) × IsNumberUpTo GREATEST_LEVEL number b.level)
+
+one_of : (b : Budget) (name number : List ℕ) → Standing b (name ∷ number ∷ []) → IsOne b name number
+one_of b name number (no_option e u v) = cc
+one_of b name number (weight_alone w e u v) =
+    let same : name ≡ codes "--weight" = cc in
+    let same' : w ≡ number = cc in inl (same, rw same' at u, v)
+one_of b name number (level_alone l e u v) =
+    let same : name ≡ codes "--level" = cc in
+    let same' : l ≡ number = cc in inr (same, u, rw same' at v)
+one_of b name number (weight_first w l e n) = cc
+one_of b name number (level_first w l e n) = cc
+
+pub one_option : (b : Budget) (name number : List ℕ) → AreOptions b (name ∷ number ∷ []) → IsOne b name number
+one_option b name number o = one_of b name number (standing b _ o)
+
+abbrev pub AreTwo : Budget → List ℕ → List ℕ → List ℕ → List ℕ → Type 0
+AreTwo b first number second other =
+    ((first ≡ codes "--weight") × (second ≡ codes "--level") × AreBudget b number other)
+    ⊎ ((first ≡ codes "--level") × (second ≡ codes "--weight") × AreBudget b other number)
+
+two_of : (b : Budget) (first number second other : List ℕ) → Standing b (first ∷ number ∷ second ∷ other ∷ []) → AreTwo b first number second other
+two_of b first number second other (no_option e u v) = cc
+two_of b first number second other (weight_alone w e u v) = cc
+two_of b first number second other (level_alone l e u v) = cc
+two_of b first number second other (weight_first w l e n) =
+    let same : w ≡ number = cc in
+    let same' : l ≡ other = cc in
+    let front : first ≡ codes "--weight" = cc in
+    let back : second ≡ codes "--level" = cc in inl (front, back, rw same at rw same' at n)
+two_of b first number second other (level_first w l e n) =
+    let same : w ≡ other = cc in
+    let same' : l ≡ number = cc in
+    let front : first ≡ codes "--level" = cc in
+    let back : second ≡ codes "--weight" = cc in inr (front, back, rw same at rw same' at n)
+
+pub two_options :
+    (b : Budget) (first number second other : List ℕ) → AreOptions b (first ∷ number ∷ second ∷ other ∷ []) → AreTwo b first number second other
+two_options b first number second other o = two_of b first number second other (standing b _ o)
+
+pub weight_set : (b : Budget) (number : List ℕ) → IsNumberUpTo GREATEST_WEIGHT number b.weight → b.level ≡ USUAL_LEVEL → AreOptions b (codes "--weight" ∷ number ∷ [])
+weight_set b number u v =
+    record { weight_words = codes "--weight" ∷ number ∷ []; level_words = []; weight = inr (number, refl, u); level = inl (refl, v); both = inl refl }
+
+pub level_set : (b : Budget) (number : List ℕ) → b.weight ≡ USUAL_WEIGHT → IsNumberUpTo GREATEST_LEVEL number b.level → AreOptions b (codes "--level" ∷ number ∷ [])
+level_set b number u v =
+    record { weight_words = []; level_words = codes "--level" ∷ number ∷ []; weight = inl (refl, u); level = inr (number, refl, v); both = inl refl }
+
+pub both_set : (b : Budget) (w l : List ℕ) → AreBudget b w l → AreOptions b (codes "--weight" ∷ w ∷ codes "--level" ∷ l ∷ [])
+both_set b w l n =
+    record {
+      weight_words = codes "--weight" ∷ w ∷ [];
+      level_words = codes "--level" ∷ l ∷ [];
+      weight = inr (w, refl, n.0);
+      level = inr (l, refl, n.1);
+      both = inl refl
+    }
+
+pub both_set_turned : (b : Budget) (w l : List ℕ) → AreBudget b w l → AreOptions b (codes "--level" ∷ l ∷ codes "--weight" ∷ w ∷ [])
+both_set_turned b w l n =
+    record {
+      weight_words = codes "--weight" ∷ w ∷ [];
+      level_words = codes "--level" ∷ l ∷ [];
+      weight = inr (w, refl, n.0);
+      level = inr (l, refl, n.1);
+      both = inr refl
+    }
+
+pub none_set : (b : Budget) → b.weight ≡ USUAL_WEIGHT → b.level ≡ USUAL_LEVEL → AreOptions b []
+none_set b u v = record { weight_words = []; level_words = []; weight = inl (refl, u); level = inl (refl, v); both = inl refl }
