@@ -1,4 +1,4 @@
+pub mod Budgets
 pub mod Deciding
 pub mod Generating
-pub mod Options
 pub mod Showing

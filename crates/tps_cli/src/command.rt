@@ -1,6 +1,6 @@
 //! The words of the command line.
 
-ghost use Rattle.std.specs.Prelude.{◌≡◌, ◌∷◌, MatchOption, [], codes, map, string_bytes};
+ghost use Rattle.std.specs.Prelude.{◌≡◌, ◌≢◌, ◌∷◌, MatchOption, [], codes, map, string_bytes};
 ghost use Rattle.tps_cli.specs.declared.command.Command.{Command};
 ghost use Rattle.tps_cli.specs.Words.{AreWordsOf};
 
@@ -27,8 +27,9 @@ pub enum Command {
     Generate(u64),
 }
 
-/// The command of one word.
+/// The command of one word, which isn't `prove`.
 fn command_of(word: &str) -> Option<Command>
+    requires { word.now ≢ codes "prove" }
     ensures { MatchOption result ((c : Command) → AreWordsOf c (word.now ∷ []) → ⊥) (λ c. AreWordsOf c (word.now ∷ [])) }
 {
     match word {
@@ -57,6 +58,7 @@ fn generation(number: &str) -> Option<Command>
 }
 
 /// The command `prove` with its options.
+#[tactic(auto, using(crate::proofs::Budgets::options_within))]
 fn proving(options: &[String]) -> Option<Command>
     ensures { MatchOption result ((c : Command) → AreWordsOf c (codes "prove" ∷ map string_bytes options.now) → ⊥) (λ c. AreWordsOf c (codes "prove" ∷ map string_bytes options.now)) }
 {
@@ -70,11 +72,16 @@ fn proving(options: &[String]) -> Option<Command>
 fn command_with(word: &str, others: &[String]) -> Option<Command>
     ensures { MatchOption result ((c : Command) → AreWordsOf c (word.now ∷ map string_bytes others.now) → ⊥) (λ c. AreWordsOf c (word.now ∷ map string_bytes others.now)) }
 {
-    match (word, others) {
-        ("prove", options) => proving(options),
-        ("generate", [number]) => generation(number.as_str()),
-        (_, []) => command_of(word),
-        _ => None,
+    match word {
+        "prove" => proving(others),
+        "generate" => match others {
+            [number] => generation(number.as_str()),
+            _ => None,
+        },
+        _ => match others {
+            [] => command_of(word),
+            _ => None,
+        },
     }
 }
 

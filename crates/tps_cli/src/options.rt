@@ -1,6 +1,6 @@
 //! The options of `prove`.
 
-ghost use Rattle.std.specs.Prelude.{◌≡◌, ◌≤◌, ◌∷◌, MatchOption, Some, [], map, string_bytes};
+ghost use Rattle.std.specs.Prelude.{◌≡◌, ◌≤◌, ◌∷◌, MatchOption, [], map, string_bytes, ℕ};
 ghost use Rattle.tps_cli.specs.Options.{AreBudget, AreOptions, IsNumberUpTo};
 ghost use Rattle.tps_cli.specs.declared.options.Budget.{Budget};
 
@@ -46,16 +46,17 @@ fn number_up_to(greatest: u64, word: &str) -> Option<u64>
 fn budget_from(weight: &str, level: &str) -> Option<Budget>
     ensures { MatchOption result ((b : Budget) → AreBudget b weight.now level.now → ⊥) (λ b. AreBudget b weight.now level.now) }
 {
-    match (
-        number_up_to(GREATEST_WEIGHT, weight),
-        number_up_to(GREATEST_LEVEL, level),
-    ) {
-        (Some(weight), Some(level)) => Some(Budget { weight, level }),
-        _ => None,
+    match number_up_to(GREATEST_WEIGHT, weight) {
+        Some(weight) => match number_up_to(GREATEST_LEVEL, level) {
+            Some(level) => Some(Budget { weight, level }),
+            None => None,
+        },
+        None => None,
     }
 }
 
 /// The budget of one option.
+#[tactic(auto, using(crate::proofs::Budgets::one_option, crate::proofs::Budgets::weight_set, crate::proofs::Budgets::level_set))]
 fn budget_of_one(name: &str, number: &str) -> Option<Budget>
     ensures { MatchOption result ((b : Budget) → AreOptions b (name.now ∷ number.now ∷ []) → ⊥) (λ b. AreOptions b (name.now ∷ number.now ∷ [])) }
 {
@@ -79,6 +80,7 @@ fn budget_of_one(name: &str, number: &str) -> Option<Budget>
 }
 
 /// The budget of two options.
+#[tactic(auto, using(crate::proofs::Budgets::two_options, crate::proofs::Budgets::both_set, crate::proofs::Budgets::both_set_turned))]
 fn budget_of_two(first: &str, number: &str, second: &str, other: &str) -> Option<Budget>
     ensures { MatchOption result ((b : Budget) → AreOptions b (first.now ∷ number.now ∷ second.now ∷ other.now ∷ []) → ⊥) (λ b. AreOptions b (first.now ∷ number.now ∷ second.now ∷ other.now ∷ [])) }
 {

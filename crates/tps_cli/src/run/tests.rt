@@ -233,9 +233,24 @@ fn chains_are_generated(rt: HostRuntime) -> Result<(), Fail> {
 fn proofs_are_found(rt: HostRuntime) -> Result<(), Fail> {
     let alloc = rt.alloc();
     for (words, text, wanted, out) in [
-        ("prove --weight 0", "TRUTH", Status::Done, "(PROOF 1 TRUTH CONST ())\n"),
-        ("prove --level 0 --weight 0", "p OR ~ p", Status::Done, "(PROOF 1 (A (A OR (V p O)) (A NOT (V p O))) (OR LEAF (NOT LEAF)) ((1 2)))\n"),
-        ("prove --weight 1", "EXISTS x FORALL y. P(OI) x IMPLIES P y", Status::No, "UNKNOWN 1\n"),
+        (
+            "prove --weight 0",
+            "TRUTH",
+            Status::Done,
+            "(PROOF 1 TRUTH CONST ())\n",
+        ),
+        (
+            "prove --level 0 --weight 0",
+            "p OR ~ p",
+            Status::Done,
+            "(PROOF 1 (A (A OR (V p O)) (A NOT (V p O))) (OR LEAF (NOT LEAF)) ((1 2)))\n",
+        ),
+        (
+            "prove --weight 1",
+            "EXISTS x FORALL y. P(OI) x IMPLIES P y",
+            Status::No,
+            "UNKNOWN 1\n",
+        ),
         ("prove", "P x", Status::BadText, ""),
     ] {
         let (status, written) = run_on(alloc, words, text, Vec::new(alloc), Vec::new(alloc))?;

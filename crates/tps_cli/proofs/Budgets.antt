@@ -1,5 +1,7 @@
 -- How the options of `prove` stand.
-use Rattle.std.proofs.Common.{◌≡◌, ◌⊎◌, ◌≤◌, ◌∙◌, ℕ, List, [], ◌∷◌, ◌++◌, Some, ap, codes, inl, inr, refl, sym}
+use Rattle.std.proofs.Common.{◌≡◌, ◌⊎◌, ◌<◌, ◌≤◌, ◌∙◌, ℕ, List, [], ◌∷◌, ◌++◌, Some, Global, MatchOption, Option, None, String, ap, codes, inl, inr, length, map, refl, slice_index_or, string_bytes, sym}
+use native.Mathlib.Omega.{arith}
+use Rattle.std.proofs.lemmas.List.{length-map}
 use Rattle.core_text.specs.Words.{numeral_of}
 use Rattle.tps_cli.specs.Options.{AreBudget, AreOptions, IsNumberUpTo, IsOption}
 use Rattle.tps_cli.specs.declared.options.Budget.{Budget}
@@ -32,7 +34,7 @@ pub standing : (b : Budget) (words : List (List ℕ)) → AreOptions b words →
 standing b words o = by_cases b words o.weight_words o.level_words o.weight o.level o.both
 
 budgets : (b c : Budget) → b.weight ≡ c.weight → b.level ≡ c.level → b ≡ c
-budgets b c e f = cc
+budgets b c e f = ap (λ (w : ℕ). record { weight = w; level = b.level }) e ∙ ap (λ (l : ℕ). record { weight = c.weight; level = l }) f
 
 number_one : (greatest : ℕ) (v w : List ℕ) (m n : ℕ) → v ≡ w → IsNumberUpTo greatest v m → IsNumberUpTo greatest w n → m ≡ n
 number_one greatest v w m n same (e, within) (f, within') =
@@ -79,9 +81,9 @@ pub options_one : (b c : Budget) (words : List (List ℕ)) → AreOptions b word
 options_one b c words o p = one b c words (standing b words o) (standing c words p)
 
 within : (b : Budget) (words : List (List ℕ)) → Standing b words → (b.weight ≤ GREATEST_WEIGHT) × (b.level ≤ GREATEST_LEVEL)
-within b words (no_option e u v) = (omega u, omega v)
-within b words (weight_alone w e u v) = (u.1, omega v)
-within b words (level_alone l e u v) = (omega u, v.1)
+within b words (no_option e u v) = (omega (arith, u), omega (arith, v))
+within b words (weight_alone w e u v) = (u.1, omega (arith, v))
+within b words (level_alone l e u v) = (omega (arith, u), v.1)
 within b words (weight_first w l e n) = (n.0.1, n.1.1)
 within b words (level_first w l e n) = (n.0.1, n.1.1)
 
@@ -148,7 +150,7 @@ both_set b w l n =
       level_words = codes "--level" ∷ l ∷ [];
       weight = inr (w, refl, n.0);
       level = inr (l, refl, n.1);
-      both = inl refl
+      both = inl refl;
     }
 
 pub both_set_turned : (b : Budget) (w l : List ℕ) → AreBudget b w l → AreOptions b (codes "--level" ∷ l ∷ codes "--weight" ∷ w ∷ [])
@@ -158,8 +160,65 @@ both_set_turned b w l n =
       level_words = codes "--level" ∷ l ∷ [];
       weight = inr (w, refl, n.0);
       level = inr (l, refl, n.1);
-      both = inr refl
+      both = inr refl;
     }
 
 pub none_set : (b : Budget) → b.weight ≡ USUAL_WEIGHT → b.level ≡ USUAL_LEVEL → AreOptions b []
 none_set b u v = record { weight_words = []; level_words = []; weight = inl (refl, u); level = inl (refl, v); both = inl refl }
+
+-- both are set exactly where both numbers are
+pub both_match :
+    (found : Option Budget) (n o : List ℕ) → MatchOption found ((b : Budget) → AreBudget b n o → ⊥) (λ b. AreBudget b n o)
+    → MatchOption found ((b : Budget) → AreOptions b (codes "--weight" ∷ n ∷ codes "--level" ∷ o ∷ []) → ⊥)
+    (λ b. AreOptions b (codes "--weight" ∷ n ∷ codes "--level" ∷ o ∷ []))
+both_match None n o h = λ b options. elim (two_options b _ _ _ _ options) [ inl (x, y, m) ↦ h b m | inr (x, y, m) ↦ cc ]
+both_match (Some b) n o h = both_set b n o h
+
+pub both_match_turned :
+    (found : Option Budget) (n o : List ℕ) → MatchOption found ((b : Budget) → AreBudget b n o → ⊥) (λ b. AreBudget b n o)
+    → MatchOption found ((b : Budget) → AreOptions b (codes "--level" ∷ o ∷ codes "--weight" ∷ n ∷ []) → ⊥)
+    (λ b. AreOptions b (codes "--level" ∷ o ∷ codes "--weight" ∷ n ∷ []))
+both_match_turned None n o h = λ b options. elim (two_options b _ _ _ _ options) [ inl (x, y, m) ↦ cc | inr (x, y, m) ↦ h b m ]
+both_match_turned (Some b) n o h = both_set_turned b n o h
+
+-- Words in a slice
+
+abbrev Words : Type 0
+Words = List (String Global)
+
+pub two_words :
+    (l : Words) (a b : String Global) (x y : List ℕ) → a ≡ slice_index_or l 0 a → b ≡ slice_index_or l 1 b → 2 ≤ length l → length l < 3
+    → x ≡ string_bytes a → y ≡ string_bytes b → map string_bytes l ≡ x ∷ y ∷ []
+two_words [] a b x y e f low high u v = absurd (omega (arith, low))
+two_words (a' ∷ []) a b x y e f low high u v = absurd (omega (arith, low))
+two_words (a' ∷ b' ∷ []) a b x y e f low high u v = cc
+two_words (a' ∷ b' ∷ c' ∷ l) a b x y e f low high u v = absurd (omega (arith, high))
+
+pub four_words :
+    (l : Words) (a b c d : String Global) (x y z w : List ℕ) → a ≡ slice_index_or l 0 a → b ≡ slice_index_or l 1 b → c ≡ slice_index_or l 2 c
+    → d ≡ slice_index_or l 3 d → 4 ≤ length l → length l < 5 → x ≡ string_bytes a → y ≡ string_bytes b → z ≡ string_bytes c → w ≡ string_bytes d
+    → map string_bytes l ≡ x ∷ y ∷ z ∷ w ∷ []
+four_words [] a b c d x y z w e f g h low high p q r s = absurd (omega (arith, low))
+four_words (a' ∷ []) a b c d x y z w e f g h low high p q r s = absurd (omega (arith, low))
+four_words (a' ∷ b' ∷ []) a b c d x y z w e f g h low high p q r s = absurd (omega (arith, low))
+four_words (a' ∷ b' ∷ c' ∷ []) a b c d x y z w e f g h low high p q r s = absurd (omega (arith, low))
+four_words (a' ∷ b' ∷ c' ∷ d' ∷ []) a b c d x y z w e f g h low high p q r s = cc
+four_words (a' ∷ b' ∷ c' ∷ d' ∷ e' ∷ l) a b c d x y z w e f g h low high p q r s = absurd (omega (arith, high))
+
+pub no_words : (b : Budget) (l : Words) → length l < 1 → b.weight ≡ USUAL_WEIGHT → b.level ≡ USUAL_LEVEL → AreOptions b (map string_bytes l)
+no_words b [] low u v = none_set b u v
+no_words b (a ∷ l) low u v = absurd (omega (arith, low))
+
+-- options are none, one or two, each of two words
+counted : (b : Budget) (words : List (List ℕ)) → Standing b words → (length words ≡ 0) ⊎ ((length words ≡ 2) ⊎ (length words ≡ 4))
+counted b words (no_option e u v) = inl (ap length e)
+counted b words (weight_alone w e u v) = inr (inl (ap length e))
+counted b words (level_alone l e u v) = inr (inl (ap length e))
+counted b words (weight_first w l e n) = inr (inr (ap length e))
+counted b words (level_first w l e n) = inr (inr (ap length e))
+
+pub option_count :
+    (b : Budget) (l : Words) → AreOptions b (map string_bytes l) → (length l ≡ 0) ⊎ ((length l ≡ 2) ⊎ (length l ≡ 4))
+option_count b l o =
+    let same : length (map string_bytes l) ≡ length l = length-map l string_bytes in
+    elim (counted b _ (standing b _ o)) [ inl e ↦ inl (sym same ∙ e) | inr h ↦ elim h [ inl e ↦ inr (inl (sym same ∙ e)) | inr e ↦ inr (inr (sym same ∙ e)) ] ]
