@@ -69,7 +69,8 @@ least_proof formula level weight most levels c p is_formula are tried there with
       in_budget = proof_in_budget formula level weight most c p candidate light proof same tree;
       least = λ q in_budget. by_order (tree_weight q.tree) weight (tree_weight p.tree) own (λ less.
           let reached = proof_reached formula level most levels q is_formula are in_budget (omega (arith, less, within)) in
-          tried (tree_weight q.tree) reached.0 less reached.1 reached.2);
+          let light = reached.2 in
+          tried (tree_weight reached.0.0) reached.0 (omega (arith, less, light)) reached.1 reached.3);
     }
   where
     by_order : (other weight mine : ℕ) → mine ≡ weight → (other < weight → ⊥) → mine ≤ other
@@ -80,4 +81,4 @@ pub no_proof : (formula : Term) (level most : ℕ) (levels : List (List GrownTre
 no_proof formula level most levels p is_formula are many tried in_budget =
     let light = in_budget.budget.light in
     let reached = proof_reached formula level most levels p is_formula are in_budget (omega (arith, light, many)) in
-    tried (tree_weight p.tree) reached.0 (omega (arith, light)) reached.1 reached.2
+    let lighter = reached.2 in tried (tree_weight reached.0.0) reached.0 (omega (arith, light, lighter)) reached.1 reached.3
