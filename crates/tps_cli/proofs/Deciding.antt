@@ -10,7 +10,7 @@ use Rattle.tps_cli.specs.Words.{AreWordsOf}
 use Rattle.tps_cli.proofs.Budgets.{options_one}
 use Rattle.tps_cli.specs.declared.command.Command.{Command}
 use Rattle.tps_cli.specs.declared.options.Budget.{Budget}
-use Rattle.tps_cli.specs.declared.command.Command.TheVariants.{Prove, Check, Translate, Verify, Show, Generate}
+use Rattle.tps_cli.specs.declared.command.Command.TheVariants.{Prove, Check, Translate, Verify, Show, Etps, Generate}
 
 -- a proof text that isn't a proof holds none
 pub holds_none : (bytes : List ℕ) (p : Proof) → (IsProof p → ⊥) → ((q : Proof) → IsProofText bytes q → q ≡ p) → HoldsProof bytes → ⊥
@@ -38,6 +38,7 @@ words_one (Prove b) Check words (os, e, set, within) f = absurd (prove_or_check 
 words_one (Prove b) Translate words e f = cc
 words_one (Prove b) Verify words e f = cc
 words_one (Prove b) Show words e f = cc
+words_one (Prove b) Etps words e f = cc
 words_one (Prove b) (Generate n) words e f = cc
 words_one Check (Prove b) words f (os, e, set, within) = absurd (prove_or_check os (sym e ∙ f))
 words_one Translate (Prove b) words e f = cc
@@ -48,22 +49,34 @@ words_one Check Check words e f = refl
 words_one Check Translate words e f = cc
 words_one Check Verify words e f = cc
 words_one Check Show words e f = cc
+words_one Check Etps words e f = cc
 words_one Check (Generate n) words e f = cc
 words_one Translate Check words e f = cc
 words_one Translate Translate words e f = refl
 words_one Translate Verify words e f = cc
 words_one Translate Show words e f = cc
+words_one Translate Etps words e f = cc
 words_one Translate (Generate n) words e f = cc
 words_one Verify Check words e f = cc
 words_one Verify Translate words e f = cc
 words_one Verify Verify words e f = refl
 words_one Verify Show words e f = cc
+words_one Verify Etps words e f = cc
 words_one Verify (Generate n) words e f = cc
 words_one Show Check words e f = cc
 words_one Show Translate words e f = cc
 words_one Show Verify words e f = cc
 words_one Show Show words e f = refl
+words_one Show Etps words e f = cc
 words_one Show (Generate n) words e f = cc
+words_one Etps (Prove b) words e f = cc
+words_one Etps Check words e f = cc
+words_one Etps Translate words e f = cc
+words_one Etps Verify words e f = cc
+words_one Etps Show words e f = cc
+words_one Etps Etps words e f = refl
+words_one Etps (Generate n) words e f = cc
+words_one (Generate n) Etps words e f = cc
 words_one (Generate n) Check words e f = cc
 words_one (Generate n) Translate words e f = cc
 words_one (Generate n) Verify words e f = cc
@@ -81,4 +94,5 @@ no_budget options none Check words = prove_or_check options words
 no_budget options none Translate words = cc
 no_budget options none Verify words = cc
 no_budget options none Show words = cc
+no_budget options none Etps words = cc
 no_budget options none (Generate n) words = cc

@@ -10,5 +10,6 @@ pub mod Runs
 pub mod Shows
 pub mod Statuses
 pub mod Translates
+pub mod Tutors
 pub mod Verifies
 pub mod Words

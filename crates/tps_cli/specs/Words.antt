@@ -6,7 +6,7 @@ use Rattle.tps_cli.specs.Options.{AreOptions}
 use Rattle.tps_cli.specs.declared.options.TheConstants.{GREATEST_WEIGHT, GREATEST_LEVEL}
 use Rattle.tps_cli.specs.declared.command.TheConstants.{LONGEST_CHAIN}
 use Rattle.tps_cli.specs.declared.command.Command.{Command}
-use Rattle.tps_cli.specs.declared.command.Command.TheVariants.{Prove, Check, Translate, Verify, Show, Generate}
+use Rattle.tps_cli.specs.declared.command.Command.TheVariants.{Prove, Check, Translate, Verify, Show, Etps, Generate}
 
 -- a budget is up to the greatest weight and level, and a chain has at least one instance, and no more than the longest
 abbrev pub IsCommand : Command → Type 0
@@ -15,6 +15,7 @@ IsCommand Check = Unit {0}
 IsCommand Translate = Unit {0}
 IsCommand Verify = Unit {0}
 IsCommand Show = Unit {0}
+IsCommand Etps = Unit {0}
 IsCommand (Generate n) = (1 ≤ n) × (n ≤ LONGEST_CHAIN)
 
 -- the words ask for the command
@@ -24,6 +25,7 @@ AreWordsOf Check words = words ≡ codes "check" ∷ []
 AreWordsOf Translate words = words ≡ codes "translate" ∷ []
 AreWordsOf Verify words = words ≡ codes "verify" ∷ []
 AreWordsOf Show words = words ≡ codes "show" ∷ []
+AreWordsOf Etps words = words ≡ codes "etps" ∷ []
 AreWordsOf (Generate n) words = (word : List ℕ) × (words ≡ codes "generate" ∷ word ∷ []) × (numeral_of word ≡ Some n) × IsCommand (Generate n)
 
 -- the words are those of a command

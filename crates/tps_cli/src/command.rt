@@ -23,6 +23,8 @@ pub enum Command {
     Verify,
     /// `show`: the lines of a derivation, printed.
     Show,
+    /// `etps`: a reply to each line of a script for a deduction tutor.
+    Etps,
     /// `generate N`: the figures of the chain with N instances, N from 1 to 100.
     Generate(u64),
 }
@@ -37,6 +39,7 @@ fn command_of(word: &str) -> Option<Command>
         "translate" => Some(Command::Translate),
         "verify" => Some(Command::Verify),
         "show" => Some(Command::Show),
+        "etps" => Some(Command::Etps),
         _ => None,
     }
 }

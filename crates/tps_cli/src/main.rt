@@ -13,6 +13,7 @@ mod run;
 mod show;
 mod status;
 mod translate;
+mod tutor;
 mod verify;
 
 use crate::run::run;

@@ -17,6 +17,7 @@ use crate::prove::prove;
 use crate::show::show;
 use crate::status::Status;
 use crate::translate::translate;
+use crate::tutor::tutor;
 use crate::verify::verify;
 use std::alloc::{AllocError, Global};
 use tps_io::sink::{Sink, write_all};
@@ -49,6 +50,7 @@ fn answer(alloc: Global, command: Command, bytes: &[u8]) -> Result<Answer, Alloc
         Command::Translate => translate(alloc, bytes),
         Command::Verify => verify(alloc, bytes),
         Command::Show => show(alloc, bytes),
+        Command::Etps => tutor(alloc, bytes),
         Command::Generate(length) => generate(alloc, length),
     }
 }
