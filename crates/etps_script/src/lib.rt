@@ -1,0 +1,13 @@
+//! Scripts for the deduction tutor: commands to a session and the replies to them.
+#![tactic(auto)]
+
+pub mod known;
+mod lines;
+mod phrases;
+pub mod refusals;
+pub mod replies;
+mod requests;
+pub mod scripts;
+mod steps;
+#[cfg(test)]
+mod tests;

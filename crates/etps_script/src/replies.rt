@@ -1,0 +1,110 @@
+//! The replies to the commands of a script.
+
+ghost use Rattle.std.specs.Prelude.{◌≡◌, ◌⊎◌, IfOk, IsSome};
+ghost use Rattle.tps_reader.specs.Raws.{plain_raw};
+ghost use Rattle.nd_rules.specs.Lines.{line_of};
+ghost use Rattle.etps_session.specs.Replays.{replay};
+ghost use Rattle.script_text.specs.Commands.{plain_script};
+ghost use Rattle.etps_script.specs.Replies.{IsBegun, IsNoStep, IsNotBegun, IsNotTakenBack, IsStep, IsTakenBack, Replied, Shows, done_reply};
+ghost use Rattle.etps_script.specs.Requests.{line_number as line_number_of};
+
+use crate::phrases::formula_beside;
+use crate::refusals::{Refusal, numbered, refused, said, undo_refusal};
+use crate::steps::{is_started, take};
+use etps_session::sessions::Session;
+use hol_terms::lists::{Text, Vars};
+use script_text::commands::ScriptCommand;
+use std::alloc::{AllocError, Global};
+use tps_print::lines::print_line;
+use tps_reader::raws::Raw;
+
+/// OK and the printed line of the number.
+fn shown(alloc: Global, session: &Session, number: u64) -> Result<Text, AllocError>
+    requires { IsSome (line_of (replay session.now) number) }
+    ensures { IfOk result (λ out. Shows session.now number out) }
+{
+    match session.outline().find(number) {
+        None => unreachable!(),
+        Some(line) => {
+            let printed = print_line(alloc, line)?;
+            let mut out = said(alloc, b"OK ")?;
+            out.append(printed.as_slice())?;
+            Ok(out)
+        }
+    }
+}
+
+/// PROVE: begins anew with the goal.
+fn prove(
+    alloc: Global,
+    session: &mut Session,
+    number: u64,
+    goal: &Raw,
+) -> Result<Text, AllocError>
+    ensures { IfOk result (λ out. IsBegun number (plain_raw goal.now) session.new out ⊎ IsNotBegun session.old (plain_raw goal.now) session.new out) }
+{
+    let known = Vars::new(alloc);
+    match formula_beside(alloc, goal, &known) {
+        Ok(formula) => {
+            session.start(number, formula)?;
+            shown(alloc, session, number)
+        }
+        Err(refusal) => refused(alloc, &refusal),
+    }
+}
+
+/// UNDO: takes the last accepted command back.
+fn undo(alloc: Global, session: &mut Session) -> Result<Text, AllocError>
+    ensures { IfOk result (λ out. IsTakenBack session.old session.new out ⊎ IsNotTakenBack session.old session.new out) }
+{
+    match session.undo() {
+        Ok(number) => numbered(alloc, b"UNDONE ", number),
+        Err(fault) => refused(alloc, &undo_refusal(fault)),
+    }
+}
+
+/// DONE: whether the goal is derived, or the first planned line.
+fn done(alloc: Global, session: &Session) -> Result<Text, AllocError>
+    ensures { IfOk result (λ out. out ≡ done_reply session.now) }
+{
+    if !is_started(session) {
+        return refused(alloc, &Refusal::NoGoal);
+    }
+    match session.first_planned() {
+        Some(number) => numbered(alloc, b"OPEN ", number),
+        None => said(alloc, b"DONE"),
+    }
+}
+
+/// A step: its line, or the first refusal.
+fn step(
+    alloc: Global,
+    session: &mut Session,
+    script: &ScriptCommand,
+) -> Result<Text, AllocError>
+    requires { IsSome (line_number_of (plain_script script.now)) }
+    ensures { IfOk result (λ out. IsStep session.old (plain_script script.now) session.new out ⊎ IsNoStep session.old (plain_script script.now) session.new out) }
+{
+    match take(alloc, session, script) {
+        Ok(number) => shown(alloc, session, number),
+        Err(refusal) => refused(alloc, &refusal),
+    }
+}
+
+/// Does what the command asks for, and answers the reply, without an end of line. An error comes only where memory is wanting; then the
+/// session is as it was, or has taken the command.
+pub fn execute(
+    alloc: Global,
+    session: &mut Session,
+    script: &ScriptCommand,
+) -> Result<Text, AllocError>
+    ensures { IfOk result (λ out. Replied session.old (plain_script script.now) session.new out) }
+{
+    match script {
+        ScriptCommand::Blank => Ok(Text::new(alloc)),
+        ScriptCommand::Prove { number, goal } => prove(alloc, session, *number, goal),
+        ScriptCommand::Undo => undo(alloc, session),
+        ScriptCommand::Done => done(alloc, session),
+        _ => step(alloc, session, script),
+    }
+}

@@ -1,0 +1,11 @@
+pub mod Leading
+pub mod Leaving
+pub mod Phrasing
+pub mod Rising
+pub mod Slicing
+pub mod Naming
+pub mod Tailing
+pub mod Typing
+pub mod Wording
+pub mod Asking
+pub mod Answering
