@@ -1,8 +1,7 @@
 -- Where a script is cut.
-use Rattle.std.proofs.Common.{ℕ, suc, ◌+◌, ◌-◌, ◌<◌, List, [], ◌∷◌, Bool, true, false, cond, ◌≡◌, refl, sym, ap, subst, ◌∙◌, length, take, drop, arith, Some, None}
+use Rattle.std.proofs.Common.{ℕ, suc, ◌+◌, ◌-◌, List, [], ◌∷◌, Bool, true, false, cond, ◌≡◌, refl, sym, ap, subst, ◌∙◌, length, take, drop, arith, Some, None}
 use Rattle.std.specs.Prelude.{◌==◌}
 use Rattle.std.specs.List.{position_from}
-use Rattle.std.specs.declared.option.Option.{Option}
 use Rattle.std.proofs.lemmas.List.{length-drop}
 use Rattle.std.proofs.Math.Seq.{take-length}
 use Rattle.etps_script.specs.Lines.{script_lines, with_front}
@@ -30,7 +29,7 @@ cut_from at (b ∷ bytes) i e = by_test (b == 10) refl e (cut_from (at + 1) byte
           length_of_first = suc k;
           place = omega (arith, r.place);
           cut = ap (λ (t : Bool). cond t ([] ∷ script_lines bytes) (with_front b (script_lines bytes))) f
-            ∙ ap (with_front b) r.cut ∙ ap (λ (n : ℕ). (b ∷ take k bytes) ∷ script_lines (drop n (b ∷ bytes))) more;
+              ∙ ap (with_front b) r.cut ∙ ap (λ (n : ℕ). (b ∷ take k bytes) ∷ script_lines (drop n (b ∷ bytes))) more;
         }
 
 last_by_test : (at b : ℕ) (bytes : List ℕ) (t : Bool) → (b == 10) ≡ t → cond t (Some at) (position_from (λ b. b == 10) (at + 1) bytes) ≡ None
@@ -48,7 +47,7 @@ cut_rest bytes i e =
     let c = cut_from 0 bytes i (sym e) in
     let same : c.length_of_first ≡ i = omega (arith, c.place) in
     let whole : take (length bytes - (i + 1)) (drop (i + 1) bytes) ≡ drop (i + 1) bytes =
-        ap (λ (n : ℕ). take n (drop (i + 1) bytes)) (sym (length-drop (i + 1) bytes)) ∙ take-length (drop (i + 1) bytes) in
+    ap (λ (n : ℕ). take n (drop (i + 1) bytes)) (sym (length-drop (i + 1) bytes)) ∙ take-length (drop (i + 1) bytes) in
     subst (λ (k : ℕ). script_lines bytes ≡ take k bytes ∷ script_lines (drop (k + 1) bytes)) same c.cut ∙ ap (λ (l : List ℕ). take i bytes ∷ script_lines l) (sym whole)
 
 -- the only line
@@ -57,5 +56,5 @@ pub cut_last : (bytes : List ℕ) → (bytes ≡ [] → ⊥) → None ≡ positi
 cut_last [] some e = absurd (some refl)
 cut_last (b ∷ bytes) some e =
     let none : take (length (b ∷ bytes) - length (b ∷ bytes)) (drop (length (b ∷ bytes)) (b ∷ bytes)) ≡ [] =
-        ap (λ (n : ℕ). take n (drop (length (b ∷ bytes)) (b ∷ bytes))) (let zero_left : length (b ∷ bytes) - length (b ∷ bytes) ≡ 0 = omega arith in zero_left) in
+    ap (λ (n : ℕ). take n (drop (length (b ∷ bytes)) (b ∷ bytes))) (let zero_left : length (b ∷ bytes) - length (b ∷ bytes) ≡ 0 = omega arith in zero_left) in
     last_from 0 b bytes (sym e) ∙ ap (λ (l : List ℕ). (b ∷ bytes) ∷ script_lines l) (sym none)

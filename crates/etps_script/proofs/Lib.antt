@@ -1,3 +1,5 @@
 pub mod Cutting
-pub mod Showing
+pub mod Meanings
+pub mod Replying
+pub mod Stepping
 pub mod Tallying

@@ -1,17 +1,16 @@
 -- Variables as they are collected: what is gained, and which names two of them share.
-use Rattle.std.proofs.Common.{ℕ, zero, suc, ◌+◌, ◌<◌, List, [], ◌∷◌, ◌++◌, Bool, true, false, not, ◌≡◌, refl, sym, ap, subst, ◌∙◌, length, take, arith, inl, inr, ◌⊎◌, Some, None, get_or, drop, drop-cons}
-use Rattle.std.specs.Prelude.{Contains, ◌↔◌, slice_get, IsNone}
+use Rattle.std.proofs.Common.{ℕ, suc, ◌+◌, ◌<◌, List, [], ◌∷◌, ◌++◌, Bool, true, false, not, ◌≡◌, refl, sym, ap, subst, ◌∙◌, length, take, arith, inl, inr, ◌⊎◌, Some, None, get_or, drop, drop-cons}
+use Rattle.std.specs.Prelude.{Contains, slice_get}
 use Rattle.std.specs.declared.option.Option.{Option}
 use Rattle.std.proofs.lemmas.List.Elements.{Contains-append_left, Contains-append_right, Contains-append_cases}
-use Rattle.hol_terms.proofs.FreeLaws.{StandsIn, contains_stands, stands_contains}
+use Rattle.hol_terms.proofs.FreeLaws.{contains_stands, stands_contains}
 use Rattle.std.proofs.lemmas.List.{take_more}
 use Rattle.std.proofs.lemmas.Option.{get_or_from_slice_get, slice_get_within}
 use Rattle.hol_terms.specs.Places.{place_of}
 use Rattle.hol_terms.proofs.Placing.{place_held, place_none}
-use Rattle.hol_terms.specs.FreeVariables.{IsFree}
 use Rattle.hol_terms.specs.Terms.{SimpleType, Term, free, bound, constant, application, abstraction, Constant, Variable, truth_type}
 use Rattle.nd_rules.specs.Lines.{DeductionLine}
-use Rattle.etps_script.specs.Known.{AreKnown, IsFreeIn, IsOnlyType}
+use Rattle.etps_script.specs.Known.{AreKnown}
 use Rattle.etps_script.specs.Tallies.{AreFreeBefore, AreFreeIn, AreTallied, AreUnshared, GainsFree, IsGained, IsKept, IsMarked}
 
 -- a list of one
@@ -96,19 +95,21 @@ pub tallied_new_name : (old new names more shared marked : List Variable) (n : L
 tallied_new_name old new names more shared marked n s t put fresh gain same =
     let g : IsGained old new (n, s) = gained_put old new (n, s) put in
     let other : (m : List ℕ) (r : SimpleType) → Contains new (m, r) → Contains old (m, r) ⊎ ((m ≡ n) × (r ≡ s)) =
-        λ m r h. elim (g.only (m, r) h) [ inl p ↦ inl p | inr p ↦ inr (ap (λ (v : Variable). v.0) p, ap (λ (v : Variable). v.1) p) ] in
+    λ m r h. elim (g.only (m, r) h) [ inl p ↦ inl p | inr p ↦ inr (ap (λ (v : Variable). v.0) p, ap (λ (v : Variable). v.1) p) ] in
     let no_old : (m : List ℕ) (r : SimpleType) → m ≡ n → Contains old (m, r) → ⊥ =
-        λ m r e h. fresh (subst (λ (l : List ℕ). Contains names (l, truth_type)) e (t.named m r h)) in
+    λ m r e h. fresh (subst (λ (l : List ℕ). Contains names (l, truth_type)) e (t.named m r h)) in
     record {
       named = λ m r h. elim (other m r h) [ inl p ↦ gain.kept (m, truth_type) (t.named m r p) | inr p ↦ subst (λ (l : List ℕ). Contains more (l, truth_type)) (sym p.0) gain.gained ];
       some_type = λ m h. elim (gain.only (m, truth_type) h) [
-          inl p ↦ let old_one = t.some_type m p in (old_one.0, g.kept (m, old_one.0) old_one.1)
-        | inr p ↦ (s, subst (λ (l : List ℕ). Contains new (l, s)) (sym (ap (λ (v : Variable). v.0) p)) g.gained) ];
+        | inl p ↦ let old_one = t.some_type m p in (old_one.0, g.kept (m, old_one.0) old_one.1)
+        | inr p ↦ (s, subst (λ (l : List ℕ). Contains new (l, s)) (sym (ap (λ (v : Variable). v.0) p)) g.gained)
+      ];
       two_types = λ m h. let two = t.two_types m (subst (λ (l : List Variable). Contains l (m, truth_type)) same h) in
-        (two.0, two.1, g.kept (m, two.0) two.2, g.kept (m, two.1) two.3, two.4);
+          (two.0, two.1, g.kept (m, two.0) two.2, g.kept (m, two.1) two.3, two.4);
       one_type = λ m no q r h k. elim (other m q h) [
-          inl p ↦ elim (other m r k) [ inl o ↦ t.one_type m (λ x. no (subst (λ (l : List Variable). Contains l (m, truth_type)) (sym same) x)) q r p o | inr o ↦ absurd (no_old m q o.0 p) ]
-        | inr p ↦ elim (other m r k) [ inl o ↦ absurd (no_old m r p.0 o) | inr o ↦ p.1 ∙ sym o.1 ] ];
+        | inl p ↦ elim (other m r k) [ inl o ↦ t.one_type m (λ x. no (subst (λ (l : List Variable). Contains l (m, truth_type)) (sym same) x)) q r p o | inr o ↦ absurd (no_old m q o.0 p) ]
+        | inr p ↦ elim (other m r k) [ inl o ↦ absurd (no_old m r p.0 o) | inr o ↦ p.1 ∙ sym o.1 ]
+      ];
     }
 
 -- a variable that is new, with a name that another has
@@ -118,21 +119,27 @@ pub tallied_new_type : (old new names shared marked : List Variable) (n : List �
 tallied_new_type old new names shared marked n s t absent put there gain =
     let g : IsGained old new (n, s) = gained_put old new (n, s) put in
     let other : (m : List ℕ) (r : SimpleType) → Contains new (m, r) → Contains old (m, r) ⊎ ((m ≡ n) × (r ≡ s)) =
-        λ m r h. elim (g.only (m, r) h) [ inl p ↦ inl p | inr p ↦ inr (ap (λ (v : Variable). v.0) p, ap (λ (v : Variable). v.1) p) ] in
+    λ m r h. elim (g.only (m, r) h) [ inl p ↦ inl p | inr p ↦ inr (ap (λ (v : Variable). v.0) p, ap (λ (v : Variable). v.1) p) ] in
     let marked_name : (m : List ℕ) → m ≡ n → Contains marked (m, truth_type) =
-        λ m e. subst (λ (l : List ℕ). Contains marked (l, truth_type)) (sym e) gain.gained in
+    λ m e. subst (λ (l : List ℕ). Contains marked (l, truth_type)) (sym e) gain.gained in
     let first = t.some_type n there in
     record {
       named = λ m r h. elim (other m r h) [ inl p ↦ t.named m r p | inr p ↦ subst (λ (l : List ℕ). Contains names (l, truth_type)) (sym p.0) there ];
       some_type = λ m h. let one = t.some_type m h in (one.0, g.kept (m, one.0) one.1);
       two_types = λ m h. elim (gain.only (m, truth_type) h) [
-          inl p ↦ let two = t.two_types m p in (two.0, two.1, g.kept (m, two.0) two.2, g.kept (m, two.1) two.3, two.4)
-        | inr p ↦ let e : n ≡ m = sym (ap (λ (v : Variable). v.0) p) in
-            (first.0, s, subst (λ (l : List ℕ). Contains new (l, first.0)) e (g.kept (n, first.0) first.1), subst (λ (l : List ℕ). Contains new (l, s)) e g.gained,
-              λ same. absurd (absent (subst (λ (r : SimpleType). Contains old (n, r)) same first.1))) ];
+        | inl p ↦ let two = t.two_types m p in (two.0, two.1, g.kept (m, two.0) two.2, g.kept (m, two.1) two.3, two.4)
+        | inr p ↦ let e : n ≡ m = sym (ap (λ (v : Variable). v.0) p) in (
+          first.0,
+          s,
+          subst (λ (l : List ℕ). Contains new (l, first.0)) e (g.kept (n, first.0) first.1),
+          subst (λ (l : List ℕ). Contains new (l, s)) e g.gained,
+          λ same. absurd (absent (subst (λ (r : SimpleType). Contains old (n, r)) same first.1)),
+        )
+      ];
       one_type = λ m no q r h k. elim (other m q h) [
-          inl p ↦ elim (other m r k) [ inl o ↦ t.one_type m (λ x. no (gain.kept (m, truth_type) x)) q r p o | inr o ↦ absurd (no (marked_name m o.0)) ]
-        | inr p ↦ absurd (no (marked_name m p.0)) ];
+        | inl p ↦ elim (other m r k) [ inl o ↦ t.one_type m (λ x. no (gain.kept (m, truth_type) x)) q r p o | inr o ↦ absurd (no (marked_name m o.0)) ]
+        | inr p ↦ absurd (no (marked_name m p.0))
+      ];
     }
 
 -- by the answer whether the name is new
@@ -188,7 +195,7 @@ known_unshared lines variables names shared known f t u = record {
   free = λ m s h. f.free m s (u.there (m, s) h);
   only = λ m s h r free. t.one_type m (u.apart (m, s) h) r s (f.all m r free) (u.there (m, s) h);
   all = λ m s free one. u.all (m, s) (f.all m s free)
-    (λ shared_name. let two = t.two_types m shared_name in two.4 (one two.0 (f.free m two.0 two.2) ∙ sym (one two.1 (f.free m two.1 two.3))));
+      (λ shared_name. let two = t.two_types m shared_name in two.4 (one two.0 (f.free m two.0 two.2) ∙ sym (one two.1 (f.free m two.1 two.3))));
 }
 
 -- a variable is in a list or not

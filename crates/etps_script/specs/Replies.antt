@@ -1,5 +1,5 @@
 -- The reply to each command of a script, and the session to which the command leads.
-use Rattle.std.specs.Prelude.{◌≡◌, ◌≢◌, ◌⊎◌, ℕ, List, [], ◌∷◌, ◌++◌, true, false, Option, Some, None, is_some, codes, decimal}
+use Rattle.std.specs.Prelude.{◌≡◌, ◌≢◌, ◌⊎◌, ℕ, List, [], ◌++◌, true, false, Option, Some, None, is_some, codes, decimal}
 use Rattle.hol_terms.specs.Terms.{Term, truth_type}
 use Rattle.tps_reader.specs.Raws.{RawFormula}
 use Rattle.type_infer.specs.Faults.{IsOnlyAnnotation}

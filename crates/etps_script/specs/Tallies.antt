@@ -1,5 +1,5 @@
 -- How the variables of an outline are collected.
-use Rattle.std.specs.Prelude.{◌≡◌, ◌⊎◌, ◌↔◌, List, ◌∷◌, [], ◌++◌, Bool, true, false, ℕ, Contains}
+use Rattle.std.specs.Prelude.{◌≡◌, ◌⊎◌, List, ◌∷◌, [], ◌++◌, Bool, true, false, ℕ, Contains}
 use Rattle.hol_terms.specs.FreeVariables.{IsFree}
 use Rattle.hol_terms.specs.Terms.{SimpleType, Term, Variable, truth_type}
 use Rattle.nd_rules.specs.Lines.{DeductionLine}

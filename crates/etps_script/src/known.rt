@@ -135,7 +135,7 @@ fn unshared(alloc: Global, variables: &Vars, shared: &VariableSet) -> Result<Var
 }
 
 /// The variables whose name is free in the formulas of the outline at one type only.
-pub fn known_names(alloc: Global, outline: &Outline) -> Result<Vars, AllocError>
+pub(crate) fn known_names(alloc: Global, outline: &Outline) -> Result<Vars, AllocError>
     ensures { IfOk result (λ known. AreKnown outline.now known) }
 {
     let tally = tally_of(alloc, outline.as_slice())?;

@@ -1,10 +1,10 @@
 //! Scripts for the deduction tutor: commands to a session and the replies to them.
 #![tactic(auto)]
 
-pub mod known;
+mod known;
 mod lines;
 mod phrases;
-pub mod refusals;
+mod refusals;
 pub mod replies;
 mod requests;
 pub mod scripts;

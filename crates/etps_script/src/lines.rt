@@ -19,7 +19,8 @@ fn line_end(bytes: &[u8]) -> Option<usize>
 #[tactic(auto, using(crate::proofs::Cutting::cut_rest, crate::proofs::Cutting::cut_last))]
 pub(crate) fn first_line(bytes: &[u8]) -> (&[u8], &[u8])
     requires { bytes.now ≢ [] }
-    ensures { script_lines bytes.now ≡ result.0.now ∷ script_lines result.1.now }
+    ensures cut { script_lines bytes.now ≡ result.0.now ∷ script_lines result.1.now }
+    ensures shorter { length result.1.now < length bytes.now }
 {
     match line_end(bytes) {
         Some(end) => (&bytes[..end], &bytes[end + 1..]),

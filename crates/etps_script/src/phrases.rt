@@ -20,8 +20,9 @@ use type_infer::inference::{InferFault, infer};
 use type_infer::laws::annotations;
 
 /// The refusal of a phrase without a term.
-fn untyped(fault: InferFault) -> Refusal
-    ensures { (raw : RawFormula) (wanted : Option SimpleType) (known : List Variable) → IsInferFault raw wanted known fault → IsUntyped raw wanted known result }
+#[tactic(auto, using(crate::proofs::Meanings::two_terms))]
+fn untyped(fault: &InferFault) -> Refusal
+    ensures { (raw : RawFormula) (wanted : Option SimpleType) (known : List Variable) → IsInferFault raw wanted known fault.now → IsUntyped raw wanted known result }
 {
     match fault {
         InferFault::Memory => Refusal::Memory,
@@ -37,7 +38,7 @@ fn typed(alloc: Global, raw: &Raw, wanted: Option<&Ty>, known: &Vars) -> Result<
 {
     match infer(alloc, raw, wanted, known) {
         Ok(t) => Ok(t),
-        Err(fault) => Err(untyped(fault)),
+        Err(fault) => Err(untyped(&fault)),
     }
 }
 

@@ -12,7 +12,7 @@ use tps_reader::faults::RawFault;
 
 /// Why a command is refused.
 #[derive(Drop)]
-pub enum Refusal {
+pub(crate) enum Refusal {
     /// Memory is wanting.
     Memory,
     /// No goal was started.
@@ -105,8 +105,16 @@ pub(crate) fn refused_line(alloc: Global, fault: CommandFault) -> Result<Text, A
     match fault {
         CommandFault::Raw(RawFault::NotUtf8) => said(alloc, b"REFUSED UTF8"),
         CommandFault::Raw(RawFault::TooDeep(_)) => said(alloc, b"REFUSED DEEP"),
-        CommandFault::Raw(RawFault::BadCharacter(place)) => numbered(alloc, b"REFUSED SYNTAX ", place),
-        CommandFault::Raw(RawFault::Unexpected(place)) => numbered(alloc, b"REFUSED SYNTAX ", place),
+        CommandFault::Raw(RawFault::BadCharacter(place)) => numbered(
+            alloc,
+            b"REFUSED SYNTAX ",
+            place,
+        ),
+        CommandFault::Raw(RawFault::Unexpected(place)) => numbered(
+            alloc,
+            b"REFUSED SYNTAX ",
+            place,
+        ),
         CommandFault::Raw(RawFault::Memory) => Err(AllocError),
         CommandFault::Unknown => said(alloc, b"REFUSED COMMAND"),
     }

@@ -35,12 +35,7 @@ fn shown(alloc: Global, session: &Session, number: u64) -> Result<Text, AllocErr
 }
 
 /// PROVE: begins anew with the goal.
-fn prove(
-    alloc: Global,
-    session: &mut Session,
-    number: u64,
-    goal: &Raw,
-) -> Result<Text, AllocError>
+fn prove(alloc: Global, session: &mut Session, number: u64, goal: &Raw) -> Result<Text, AllocError>
     ensures { IfOk result (λ out. IsBegun number (plain_raw goal.now) session.new out ⊎ IsNotBegun session.old (plain_raw goal.now) session.new out) }
 {
     let known = Vars::new(alloc);
@@ -77,11 +72,7 @@ fn done(alloc: Global, session: &Session) -> Result<Text, AllocError>
 }
 
 /// A step: its line, or the first refusal.
-fn step(
-    alloc: Global,
-    session: &mut Session,
-    script: &ScriptCommand,
-) -> Result<Text, AllocError>
+fn step(alloc: Global, session: &mut Session, script: &ScriptCommand) -> Result<Text, AllocError>
     requires { IsSome (line_number_of (plain_script script.now)) }
     ensures { IfOk result (λ out. IsStep session.old (plain_script script.now) session.new out ⊎ IsNoStep session.old (plain_script script.now) session.new out) }
 {

@@ -209,12 +209,7 @@ fn plan(
 }
 
 /// P, of the formula for which the phrase stands.
-fn hypothesis(
-    alloc: Global,
-    outline: &Outline,
-    number: u64,
-    raw: &Raw,
-) -> Result<Command, Refusal>
+fn hypothesis(alloc: Global, outline: &Outline, number: u64, raw: &Raw) -> Result<Command, Refusal>
     ensures asks { IfOk result (λ c. Asks outline.now (say_suppose number (plain_raw raw.now)) (plain_command c)) }
     ensures typed { IfOk result (λ c. IsTyped (plain_command c)) }
     ensures fault { IfErr result (λ e. AsksNothing outline.now (say_suppose number (plain_raw raw.now)) e) }

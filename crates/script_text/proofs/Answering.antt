@@ -1,5 +1,5 @@
 -- The answer for a whole line.
-use Rattle.std.proofs.Common.{◌≡◌, ◌≢◌, ℕ, ◌<◌, ◌≤◌, List, [], ◌∷◌, length, map, drop, refl, sym, ◌∙◌, ap, subst, arith, inl, inr}
+use Rattle.std.proofs.Common.{◌≡◌, ◌≢◌, ℕ, ◌<◌, ◌≤◌, List, [], ◌∷◌, length, map, refl, sym, ◌∙◌, ap, subst, arith, inl, inr}
 use Rattle.tps_reader.specs.Depth.{depth_of}
 use Rattle.tps_reader.specs.Faults.{IsTokenFault}
 use Rattle.tps_reader.specs.Tokens.{AreTokensOf, Token, number, sign_of, word}

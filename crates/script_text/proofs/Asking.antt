@@ -1,12 +1,12 @@
 -- The commands as words, numerals and what stands behind them.
-use Rattle.std.proofs.Common.{◌≡◌, ◌≢◌, ◌⊎◌, ℕ, zero, suc, ◌+◌, ◌≤◌, true, false, List, [], ◌∷◌, ◌++◌, length, map, refl, sym, ◌∙◌, ap, ap₂, subst, arith, inl, inr}
+use Rattle.std.proofs.Common.{◌≡◌, ◌≢◌, ℕ, List, [], ◌∷◌, ◌++◌, length, map, refl, sym, ◌∙◌, ap, ap₂, subst, arith, inl, inr}
 use Rattle.tps_reader.specs.Raws.{RawFormula}
-use Rattle.tps_reader.specs.Tokens.{Sign, number, semicolon, word, Token, sign_of, tokens_from}
+use Rattle.tps_reader.specs.Tokens.{Sign, number, word, Token, sign_of, tokens_from}
 use Rattle.tps_reader.specs.declared.faults.RawFault.TheVariants as raw_fault
 use Rattle.tps_reader.proofs.Completing.{one_phrase as one_reading}
-use Rattle.script_text.specs.Commands.{ScriptRequest, say_nothing, say_prove, say_plan, say_suppose, say_deduce, say_instantiate, say_generalize, say_witness, say_choose, say_convert, say_follow, say_undo, say_done}
-use Rattle.script_text.specs.Grammar.{Asks, IsCommand, IsCommandOf, IsKnown, IsLine, IsPhraseOf, IsUnknown, IsVariableOf, Leads, first_place}
-use Rattle.script_text.specs.Languages.{Begins, LeavesFirst, OnlyBegins, Stops}
+use Rattle.script_text.specs.Commands.{ScriptRequest, say_prove, say_plan, say_suppose, say_deduce, say_instantiate, say_generalize, say_witness, say_choose, say_convert, say_follow, say_undo, say_done}
+use Rattle.script_text.specs.Grammar.{Asks, IsCommand, IsCommandOf, IsLine, IsPhraseOf, IsUnknown, Leads, first_place}
+use Rattle.script_text.specs.Languages.{LeavesFirst}
 use Rattle.script_text.specs.Lines.{IsTokensFault}
 use Rattle.script_text.specs.Tails.{BeginsNoNumber, HasBody, HasTail, IsFaultIn, NoSemicolon, tail_of}
 use Rattle.script_text.specs.Words.{numeral_count, word_text}
@@ -15,7 +15,7 @@ use Rattle.script_text.specs.declared.faults.CommandFault.TheVariants.{Raw as In
 use Rattle.script_text.specs.declared.words.CommandWord.{CommandWord}
 use Rattle.script_text.specs.declared.words.CommandWord.TheVariants as verb
 use Rattle.script_text.proofs.Leading.{Front, front_of, leads_all, leads_same}
-use Rattle.script_text.proofs.Leaving.{Follows, fault_map, fault_none, leaves_behind, leaves_none}
+use Rattle.script_text.proofs.Leaving.{Follows, fault_map, leaves_behind, leaves_none}
 use Rattle.script_text.proofs.Phrasing.{plain_number, plain_semicolon, tokens_plain}
 use Rattle.script_text.proofs.Tailing.{first_semicolon}
 use Rattle.script_text.proofs.Typing.{variable_phrase}
@@ -181,8 +181,8 @@ body_fault k ns rest ts last fault h long f =
     let K : List Token → Type 0 = HasTail (tail_of k) in
     let from : (xs : List Token) → L (p.front ++ xs) → K xs =
     λ xs g.
-        let same = leads_same ns g.0 xs g.1 (p.front ++ xs) (p.leads xs) g.2 (long ∙ sym g.3) in
-        subst K (sym same.1) g.4 in
+    let same = leads_same ns g.0 xs g.1 (p.front ++ xs) (p.leads xs) g.2 (long ∙ sym g.3) in
+    subst K (sym same.1) g.4 in
     let follows : Follows L K p.front rest = record {
       to = λ xs t. (ns, xs, p.leads xs, long, t);
       from = from rest;

@@ -1,8 +1,8 @@
 -- Laws of where tokens leave a language.
-use Rattle.std.proofs.Common.{◌≡◌, ◌≢◌, ◌⊎◌, ℕ, List, [], ◌∷◌, ◌++◌, refl, sym, ◌∙◌, ap, subst, append_assoc, inl, inr}
+use Rattle.std.proofs.Common.{◌≡◌, ◌≢◌, ℕ, List, [], ◌∷◌, ◌++◌, refl, sym, ◌∙◌, ap, subst, append_assoc, inl, inr}
 use Rattle.tps_reader.specs.Tokens.{Token, token_place}
 use Rattle.tps_reader.specs.declared.faults.RawFault.TheVariants as raw_fault
-use Rattle.script_text.specs.Languages.{Begins, LeavesFirst, OnlyBegins, Stops}
+use Rattle.script_text.specs.Languages.{Begins, LeavesFirst, Stops}
 use Rattle.script_text.specs.Tails.{IsFaultIn}
 use Rattle.script_text.specs.declared.faults.CommandFault.{CommandFault}
 use Rattle.script_text.specs.declared.faults.CommandFault.TheVariants.{Raw as InPhrase, Unknown}

@@ -1,5 +1,5 @@
 -- Tokens that are names.
-use Rattle.std.proofs.Common.{◌≡◌, ℕ, Bool, true, false, cond, List, [], ◌∷◌, ◌++◌, Option, Some, None, refl, sym, ◌∙◌, ap, subst, decimal, arith, inl, inr}
+use Rattle.std.proofs.Common.{◌≡◌, ℕ, Bool, true, false, cond, List, [], ◌∷◌, Some, None, refl, sym, ◌∙◌, ap, subst, decimal, arith, inl, inr}
 use Rattle.std.specs.Prelude.{encode_utf8_all}
 use Rattle.std.specs.Str.{chars}
 use Rattle.std.proofs.lemmas.Bool.{false_from_ne_true}
@@ -9,8 +9,7 @@ use Rattle.hol_terms.proofs.Naming.{numbered_is_name}
 use Rattle.core_text.specs.Words.{is_name}
 use Rattle.core_text.proofs.NameLaws.{IsName-chars, is_name-encoded}
 use Rattle.tps_reader.specs.Tokens.{Sign, open_square, close_square, open_round, close_round, dot, tilde, semicolon, number, word, Token, token, sign_of, token_place}
-use Rattle.script_text.specs.Grammar.{Leads}
-use Rattle.script_text.specs.Languages.{Begins, LeavesFirst, OnlyBegins, Stops}
+use Rattle.script_text.specs.Languages.{LeavesFirst}
 use Rattle.script_text.specs.Tails.{HasTail, bare_name}
 use Rattle.script_text.specs.Variables.{name_in}
 use Rattle.script_text.proofs.Leaving.{stops_behind, stops_first}

@@ -1,5 +1,5 @@
 -- Phrases among the tokens of a line.
-use Rattle.std.proofs.Common.{◌≡◌, ◌⊎◌, ℕ, ◌+◌, ◌-◌, ◌≤◌, true, List, [], ◌∷◌, ◌++◌, map, refl, sym, ◌∙◌, ap, ap₂, subst, append_assoc, codes, arith, inl, inr}
+use Rattle.std.proofs.Common.{◌≡◌, ◌⊎◌, ℕ, ◌+◌, ◌-◌, ◌^◌, ◌<◌, ◌≤◌, true, List, [], ◌∷◌, ◌++◌, map, refl, sym, ◌∙◌, ap, ap₂, subst, codes, arith, inl, inr}
 use Rattle.tps_reader.specs.Faults.{IsPhraseFault}
 use Rattle.tps_reader.specs.Grammar.{BeginsFormula, ConstantText, lone_infix, lone_quantifier, lone_tilde, IsFormula, OnlyBegins as OnlyBeginsFormula, Phrase, applied, bound, bracketed, connected, constant_alone, dotted, named, negated, truth_value, Spot, spot, standing, StopsAt, TypeText, type_end, type_group, type_letters, Written, typed, untyped, spelled, spelled_constant, spelled_type, spelled_written}
 use Rattle.tps_reader.specs.Raws.{RawFormula, raw_constant}
@@ -8,8 +8,8 @@ use Rattle.tps_reader.specs.Tokens.{Sign, open_square, close_square, open_round,
 use Rattle.tps_reader.specs.declared.faults.RawFault.{RawFault}
 use Rattle.tps_reader.specs.declared.faults.RawFault.TheVariants as raw_fault
 use Rattle.script_text.specs.Grammar.{IsPhraseOf, first_place}
-use Rattle.script_text.specs.Languages.{Begins, LeavesFirst, OnlyBegins, Stops}
-use Rattle.script_text.specs.Tails.{BeginsNoNumber, HasTail, IsFaultIn, IsWithin, NoSemicolon, Rises, first_or, moved_fault, one_phrase}
+use Rattle.script_text.specs.Languages.{Begins, OnlyBegins, Stops}
+use Rattle.script_text.specs.Tails.{BeginsNoNumber, HasTail, IsFaultIn, FitsBehind, NoSemicolon, Rises, first_or, moved_fault, one_phrase}
 use Rattle.script_text.proofs.Rising.{first_at, first_low}
 
 -- where the tokens begin, as it is read
@@ -147,6 +147,10 @@ record Parted (k : ℕ) (ts before after : List Token) (u : Token) : Type 0 wher
   front : tokens_from k b ≡ before
   here : token_from k t ≡ u
 
+parted_more : (k : ℕ) (t x : Token) (ts before after : List Token) (u : Token) → token_from k t ≡ x → Parted k ts before after u → Parted k (t ∷ ts) (x ∷ before) after u
+parted_more k t x ts before after u head p =
+    record { b = t ∷ p.b; t = p.t; a = p.a; parts = ap (λ (l : List Token). t ∷ l) p.parts; front = ap₂ (λ (x : Token) (l : List Token). x ∷ l) head p.front; here = p.here }
+
 parted : (k : ℕ) (ts before after : List Token) (u : Token) → tokens_from k ts ≡ before ++ (u ∷ after) → Parted k ts before after u
 parted k [] [] after u e = cc
 parted k [] (x ∷ before) after u e = cc
@@ -154,8 +158,7 @@ parted k (t ∷ ts) [] after u e = let here : token_from k t ≡ u = cc in recor
 parted k (t ∷ ts) (x ∷ before) after u e =
     let rest : tokens_from k ts ≡ before ++ (u ∷ after) = cc in
     let head : token_from k t ≡ x = cc in
-    let p = parted k ts before after u rest in
-    record { b = t ∷ p.b; t = p.t; a = p.a; parts = ap (λ (l : List Token). t ∷ l) p.parts; front = ap₂ (λ (x : Token) (l : List Token). x ∷ l) head p.front; here = p.here }
+    parted_more k t x ts before after u head (parted k ts before after u rest)
 
 place_from : (k : ℕ) (t : Token) (s : Sign) (place long : ℕ) → token_from k t ≡ token s place long → place ≡ token_place t - k
 place_from k (token r p l) s place long e = cc
@@ -177,10 +180,15 @@ phrase_parts ts place h =
     let p : Parted k ts h.before h.after u = parted k ts h.before h.after u h.parts in
     let first : first_place (p.b ++ (p.t ∷ p.a)) ≡ k = ap first_place (sym p.parts) in
     let dead : BeginsFormula (tokens_from k p.b ++ (token_from k p.t ∷ [])) → ⊥ =
-    subst (λ (l : List Token). BeginsFormula l → ⊥) (ap₂ (λ (l : List Token) (x : Token). l ++ (x ∷ [])) (sym p.front) (sym p.here)) h.stops in
-    (p.b, p.t, p.a, p.parts, place_from k p.t h.s place h.long p.here,
+    subst (λ (l : List Token). BeginsFormula l → ⊥) (ap₂ (λ (l : List Token) (x : Token). l ++ (x ∷ [])) (sym p.front) (sym p.here)) h.stops in (
+      p.b,
+      p.t,
+      p.a,
+      p.parts,
+      place_from k p.t h.s place h.long p.here,
       phrase_begins k p.b (nothing_or_first p.b p.a p.t k first) (subst BeginsFormula (sym p.front) h.begins),
-      phrase_stops k p.b p.t (first_of_parts p.b [] p.a p.t ∙ first) dead)
+      phrase_stops k p.b p.t (first_of_parts p.b [] p.a p.t ∙ first) dead,
+    )
 
 stops_in_line : (ts : List Token) (last place : ℕ) → Rises 0 ts last → StopsAt (tokens_from (first_place ts) ts) place → Stops (HasTail one_phrase) ts (first_place ts + place) × (first_place ts + place ≤ last)
 stops_in_line ts last place rises h =
@@ -206,10 +214,10 @@ phrase_fault ts last (raw_fault.Unexpected place) rises (inl h) = inl (stops_in_
 phrase_fault ts last (raw_fault.Unexpected place) rises (inr h) = inr (end_place ts last place rises h.0, begins_in_line ts h.1)
 phrase_fault ts last raw_fault.Memory rises h = tt
 
-pub phrase_within : (ts : List Token) (last : ℕ) (fault : RawFault) → Rises 0 ts last → IsPhraseFault (tokens_from (first_place ts) ts) (last - first_place ts) fault → IsWithin (first_place ts) fault last
-phrase_within ts last raw_fault.NotUtf8 rises h = tt
-phrase_within ts last (raw_fault.BadCharacter place) rises h = tt
-phrase_within ts last (raw_fault.TooDeep depth) rises h = tt
-phrase_within ts last (raw_fault.Unexpected place) rises (inl h) = (stops_in_line ts last place rises h).1
-phrase_within ts last (raw_fault.Unexpected place) rises (inr h) = let e = end_place ts last place rises h.0 in omega (arith, e)
-phrase_within ts last raw_fault.Memory rises h = tt
+pub phrase_fits : (ts : List Token) (last : ℕ) (fault : RawFault) → last < 2 ^ 64 → Rises 0 ts last → IsPhraseFault (tokens_from (first_place ts) ts) (last - first_place ts) fault → FitsBehind (first_place ts) fault
+phrase_fits ts last raw_fault.NotUtf8 fits rises h = tt
+phrase_fits ts last (raw_fault.BadCharacter place) fits rises h = tt
+phrase_fits ts last (raw_fault.TooDeep depth) fits rises h = tt
+phrase_fits ts last (raw_fault.Unexpected place) fits rises (inl h) = let low = (stops_in_line ts last place rises h).1 in omega (arith, low, fits)
+phrase_fits ts last (raw_fault.Unexpected place) fits rises (inr h) = let e = end_place ts last place rises h.0 in omega (arith, e, fits)
+phrase_fits ts last raw_fault.Memory fits rises h = tt

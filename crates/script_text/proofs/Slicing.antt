@@ -1,5 +1,5 @@
 -- The tokens that the program reads at a place of a slice.
-use Rattle.std.proofs.Common.{◌≡◌, ℕ, zero, suc, Some, false, true, ◌==◌, ◌+◌, ◌<◌, ◌≤◌, List, [], ◌∷◌, ◌++◌, drop, take, get_or, length, map, refl, sym, ◌∙◌, ap, ap₂, subst, arith}
+use Rattle.std.proofs.Common.{◌≡◌, ℕ, zero, suc, Some, false, true, ◌==◌, ◌+◌, ◌<◌, List, [], ◌∷◌, ◌++◌, drop, take, get_or, length, map, refl, sym, ◌∙◌, ap, ap₂, subst, arith}
 use Rattle.std.proofs.lemmas.Bool.{eqb-true, false≢true}
 use Rattle.std.proofs.lemmas.List.{drop-map, drop_more, length-map, map-append}
 use Rattle.tps_reader.specs.Tokens.{Sign, Token, number}

@@ -5,11 +5,11 @@ use Rattle.std.proofs.lemmas.List.{append-nil, get_or_append_left, length-append
 use Rattle.std.proofs.Math.Nat.{eq-or-lt_of_le}
 use Rattle.std.proofs.Math.Seq.{get_or-append_seam}
 use Rattle.hol_terms.specs.Lists.{IsAboveLast}
-use Rattle.tps_reader.specs.Grammar.{Written, untyped, named, spot}
+use Rattle.tps_reader.specs.Grammar.{untyped, spot}
 use Rattle.tps_reader.specs.Raws.{RawFormula, raw_variable}
 use Rattle.tps_reader.specs.Tokens.{Sign, number, semicolon, Token, token, sign_of, token_place}
 use Rattle.script_text.specs.Grammar.{IsPhraseOf, Leads}
-use Rattle.script_text.specs.Languages.{Begins, LeavesFirst, OnlyBegins, Stops}
+use Rattle.script_text.specs.Languages.{Begins, LeavesFirst, Stops}
 use Rattle.script_text.specs.Tails.{BeginsNoNumber, HasBody, HasTail, InOrder, IsFaultIn, NoSemicolon, Rises, SemicolonFirst, Tail, bare_name, first_number, first_or, no_more, numbered, one_phrase, two_phrases, variable}
 use Rattle.script_text.specs.declared.faults.CommandFault.{CommandFault}
 use Rattle.script_text.proofs.Leading.{Front, first_is, front_of, leads_all, leads_append, leads_fewer, leads_past}
@@ -78,19 +78,23 @@ body_begins tail count ns front f low =
     let t = some_tail tail in
     let all : Leads (map number ns ++ map number (nulls n)) t.0 (front ++ (null_tokens n ++ t.0)) =
     leads_append (map number ns) (map number (nulls n)) t.0 (null_tokens n ++ t.0) (front ++ (null_tokens n ++ t.0)) (f (null_tokens n ++ t.0)) (null_leads n t.0) in
-    let long : length (ns ++ nulls n) ≡ count = omega (arith, length-append ns (nulls n), null_count n, low) in
-    (null_tokens n ++ t.0,
-      (ns ++ nulls n, t.0, subst (λ (l : List Sign). Leads l t.0 (front ++ (null_tokens n ++ t.0))) (sym (map-append number ns (nulls n))) all, long, t.1))
+    let long : length (ns ++ nulls n) ≡ count = omega (arith, length-append ns (nulls n), null_count n, low) in (
+      null_tokens n ++ t.0,
+      (ns ++ nulls n, t.0, subst (λ (l : List Sign). Leads l t.0 (front ++ (null_tokens n ++ t.0))) (sym (map-append number ns (nulls n))) all, long, t.1),
+    )
 
 -- fewer numerals than are wanted
 pub fewer_fault : (tail : Tail) (count last : ℕ) (ns : List ℕ) (rest ts : List Token) → Leads (map number ns) rest ts → length ns < count → BeginsNoNumber rest → LeavesFirst (HasBody count tail) ts last (first_or rest last)
 fewer_fault tail count last ns [] ts h low none =
     let f = front_of (map number ns) [] ts h in
     let same : ts ≡ f.front = f.parts ∙ append-nil f.front in
-    inr (refl, record {
-      begins = subst (Begins (HasBody count tail)) (sym same) (body_begins tail count ns f.front f.leads (omega (arith, low)));
-      none = λ g. let few = leads_fewer ns g.0 [] g.1 ts h g.2 tt in absurd (omega (arith, few, g.3, low));
-    })
+    inr (
+      refl,
+      record {
+        begins = subst (Begins (HasBody count tail)) (sym same) (body_begins tail count ns f.front f.leads (omega (arith, low)));
+        none = λ g. let few = leads_fewer ns g.0 [] g.1 ts h g.2 tt in absurd (omega (arith, few, g.3, low));
+      },
+    )
 fewer_fault tail count last ns (t ∷ rest) ts h low none =
     let f = front_of (map number ns) (t ∷ rest) ts h in
     let L = HasBody count tail in
@@ -110,8 +114,8 @@ numbered_fault rising ns rest ts last place h ordered none leaves =
     let L = HasTail (numbered rising) in
     let from : (xs : List Token) → BeginsNoNumber xs → L (f.front ++ xs) → HasTail one_phrase xs =
     λ xs free g.
-        let same = leads_all ns g.0 xs g.1 (f.front ++ xs) (f.leads xs) g.3 free (phrase_number g.1 g.2 g.5) in
-        (g.2, subst (λ (l : List Token). IsPhraseOf l g.2) (sym same.1) g.5) in
+    let same = leads_all ns g.0 xs g.1 (f.front ++ xs) (f.leads xs) g.3 free (phrase_number g.1 g.2 g.5) in
+    (g.2, subst (λ (l : List Token). IsPhraseOf l g.2) (sym same.1) g.5) in
     let follows : Follows L (HasTail one_phrase) f.front rest = record {
       to = λ xs p. (ns, xs, p.0, f.leads xs, ordered, p.1);
       from = from rest none;
@@ -137,8 +141,8 @@ rising_fault ns n t rest ts last h e ordered low =
     let stop : Stops L (f.front ++ (t ∷ rest)) (token_place t) =
     stops_behind L f.front rest t begins
     (λ more g.
-        let past = leads_past ns g.0 n t more g.1 (f.front ++ (t ∷ more)) (f.leads (t ∷ more)) e g.3 (phrase_number g.1 g.2 g.5) in
-        low (above_last ns past.0 n (subst IsStrictlyIncreasing past.1 g.4))) in
+    let past = leads_past ns g.0 n t more g.1 (f.front ++ (t ∷ more)) (f.leads (t ∷ more)) e g.3 (phrase_number g.1 g.2 g.5) in
+    low (above_last ns past.0 n (subst IsStrictlyIncreasing past.1 g.4))) in
     inl (subst (λ (l : List Token). Stops L l (token_place t)) (sym f.parts) stop)
 
 -- two phrases with a semicolon between them
@@ -173,9 +177,10 @@ has_semicolon (x ∷ f) b s e h = has_semicolon f b s e h.1
 
 two_begins : (b : List Token) → Begins (HasTail one_phrase) b → Begins (HasTail two_phrases) b
 unfolding semicolon_token
-two_begins b h =
-    (h.0 ++ (semicolon_token ∷ truth_token ∷ []),
-      (b ++ h.0, semicolon_token, truth_token ∷ [], h.1.0, some_phrase.0, sym (append_assoc b h.0 (semicolon_token ∷ truth_token ∷ [])), refl, h.1.1, some_phrase.1))
+two_begins b h = (
+  h.0 ++ (semicolon_token ∷ truth_token ∷ []),
+  (b ++ h.0, semicolon_token, truth_token ∷ [], h.1.0, some_phrase.0, sym (append_assoc b h.0 (semicolon_token ∷ truth_token ∷ [])), refl, h.1.1, some_phrase.1),
+)
 
 -- the first phrase stops
 two_stops : (front rest : List Token) (place : ℕ) → NoSemicolon front → Stops (HasTail one_phrase) front place → Stops (HasTail two_phrases) (front ++ rest) place
@@ -204,8 +209,8 @@ first_fault front back t last place free is (inr h) =
     let stop : Stops L (front ++ (t ∷ back)) (token_place t) =
     stops_behind L front back t (two_begins front h.1.begins)
     (λ more g.
-        let cut = first_semicolon front more g.0 g.2 t g.1 free (phrase_semicolon g.0 g.3 g.7) is g.6 g.5 in
-        h.1.none (g.3, subst (λ (l : List Token). IsPhraseOf l g.3) (sym cut.0) g.7)) in
+    let cut = first_semicolon front more g.0 g.2 t g.1 free (phrase_semicolon g.0 g.3 g.7) is g.6 g.5 in
+    h.1.none (g.3, subst (λ (l : List Token). IsPhraseOf l g.3) (sym cut.0) g.7)) in
     inl (subst (λ (n : ℕ). Stops L (front ++ (t ∷ back)) n) (sym h.0) stop)
 
 -- there is no semicolon
@@ -216,10 +221,13 @@ lone_fault front last place free (inr h) =
 
 pub lone_ends : (front : List Token) (v : RawFormula) (last : ℕ) → NoSemicolon front → IsPhraseOf front v → LeavesFirst (HasTail two_phrases) front last last
 lone_ends front v last free h =
-    inr (refl, record {
-      begins = two_begins front ([], (v, subst (λ (l : List Token). IsPhraseOf l v) (sym (append-nil front)) h));
-      none = λ g. has_semicolon g.0 g.2 g.1 g.6 (subst NoSemicolon g.5 free);
-    })
+    inr (
+      refl,
+      record {
+        begins = two_begins front ([], (v, subst (λ (l : List Token). IsPhraseOf l v) (sym (append-nil front)) h));
+        none = λ g. has_semicolon g.0 g.2 g.1 g.6 (subst NoSemicolon g.5 free);
+      },
+    )
 
 -- the second phrase isn't whole
 pub second_fault : (front back : List Token) (t : Token) (v : RawFormula) (last place : ℕ) → NoSemicolon front → sign_of t ≡ semicolon → IsPhraseOf front v → LeavesFirst (HasTail one_phrase) back last place → LeavesFirst (HasTail two_phrases) (front ++ (t ∷ back)) last place
@@ -228,8 +236,8 @@ second_fault front back t v last place free is h leaves =
     let f : List Token = front ++ (t ∷ []) in
     let from : (xs : List Token) → L (f ++ xs) → HasTail one_phrase xs =
     λ xs g.
-        let cut = first_semicolon front xs g.0 g.2 t g.1 free (phrase_semicolon g.0 g.3 g.7) is g.6 (sym (append_assoc front (t ∷ []) xs) ∙ g.5) in
-        (g.4, subst (λ (l : List Token). IsPhraseOf l g.4) (sym cut.1) g.8) in
+    let cut = first_semicolon front xs g.0 g.2 t g.1 free (phrase_semicolon g.0 g.3 g.7) is g.6 (sym (append_assoc front (t ∷ []) xs) ∙ g.5) in
+    (g.4, subst (λ (l : List Token). IsPhraseOf l g.4) (sym cut.1) g.8) in
     let follows : Follows L (HasTail one_phrase) f back = record {
       to = λ xs p. (front, t, xs, v, p.0, append_assoc front (t ∷ []) xs, is, h, p.1);
       from = from back;

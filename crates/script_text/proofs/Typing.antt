@@ -1,21 +1,21 @@
 -- Variables with written types, read token by token.
-use Rattle.std.proofs.Common.{◌≡◌, ◌≢◌, ◌⊎◌, ℕ, zero, suc, ◌+◌, ◌-◌, ◌<◌, ◌≤◌, Bool, true, false, cond, List, [], ◌∷◌, ◌++◌, length, drop, take, get_or, Option, Some, None, is_some, refl, sym, ◌∙◌, ap, ap₂, subst, append_assoc, arith, inl, inr}
+use Rattle.std.proofs.Common.{◌≡◌, ◌≢◌, ℕ, zero, suc, ◌+◌, ◌-◌, ◌<◌, ◌≤◌, Bool, true, false, cond, List, [], ◌∷◌, ◌++◌, length, drop, take, get_or, Option, Some, None, is_some, refl, sym, ◌∙◌, ap, ap₂, subst, append_assoc, arith, inl, inr}
 use Rattle.std.proofs.lemmas.Bool.{false≢true}
 use Rattle.std.proofs.lemmas.Bool.Decides.{nat_tests}
-use Rattle.std.proofs.lemmas.List.{append-nil, drop_more, length-append, map-append, take-append-drop, take_all, take_more}
+use Rattle.std.proofs.lemmas.List.{drop_more, length-append, map-append, take-append-drop, take_all, take_more}
 use Rattle.hol_terms.specs.Names.{IsName}
 use Rattle.hol_terms.specs.Terms.{SimpleType, base_type}
-use Rattle.tps_reader.specs.Grammar.{HasType, IsFormula, Spot, spot, standing, TypeText, Types, type_end, type_group, type_letters, Written, is_letters, joined, named, spelled, spelled_type, spelled_written, typed, untyped, with_letters}
+use Rattle.tps_reader.specs.Grammar.{HasType, Spot, spot, standing, TypeText, Types, type_end, type_group, type_letters, Written, is_letters, joined, named, spelled, spelled_type, spelled_written, typed, untyped, with_letters}
 use Rattle.tps_reader.specs.Raws.{RawFormula, raw_variable}
-use Rattle.tps_reader.specs.Tokens.{Sign, open_square, close_square, open_round, close_round, dot, tilde, semicolon, number, word, Token, token, sign_of, token_from, token_place, tokens_from}
+use Rattle.tps_reader.specs.Tokens.{Sign, open_square, close_square, open_round, close_round, dot, tilde, semicolon, number, word, Token, token, sign_of, token_place, tokens_from}
 use Rattle.tps_reader.specs.declared.faults.RawFault.{RawFault}
 use Rattle.tps_reader.specs.declared.faults.RawFault.TheVariants as raw_fault
 use Rattle.tps_reader.specs.Views.{plain_sign, plain_token, plain_tokens}
 use Rattle.tps_reader.specs.declared.lexemes.Lexeme.{Lexeme}
 use Rattle.script_text.specs.Grammar.{IsPhraseOf, IsVariableOf, first_place}
-use Rattle.script_text.specs.Languages.{Begins, LeavesFirst, OnlyBegins, Stops}
+use Rattle.script_text.specs.Languages.{Begins, LeavesFirst}
 use Rattle.script_text.specs.Tails.{HasTail, IsFaultIn, variable}
-use Rattle.script_text.specs.Variables.{after_bare, after_nothing, after_within, is_whole, name_in, part_closed, read_next, read_on, whole_in}
+use Rattle.script_text.specs.Variables.{is_whole, name_in, part_closed, read_next, read_on, whole_in}
 use Rattle.script_text.specs.declared.faults.CommandFault.TheVariants.{Raw as InPhrase}
 use Rattle.script_text.specs.declared.variables.Reading.{Reading}
 use Rattle.script_text.specs.declared.variables.Reading.TheVariants as reading
@@ -136,7 +136,7 @@ group_part around before place long ts p q =
       s = q.s;
       rest = q.rest;
       parts = ap (λ (l : List Token). token open_round place long ∷ l)
-      (p.parts ∙ ap (λ (l : List Token). inner ++ (close ∷ l)) q.parts ∙ sym (append_assoc inner (close ∷ spelled_type q.text) outer));
+          (p.parts ∙ ap (λ (l : List Token). inner ++ (close ∷ l)) q.parts ∙ sym (append_assoc inner (close ∷ spelled_type q.text) outer));
       types = (p.ty, p.types, q.types);
       more = q.more;
     }
@@ -247,8 +247,8 @@ pub variable_stops : (front rest : List Token) (t : Token) (r : Reading) (last :
 variable_stops front rest t r last h e =
     inl (stops_behind (HasTail variable) front rest t (begins_variable front r h)
     (λ more g.
-        whole_none more (read_next r (sign_of t)) e
-        (ap whole_in (sym (read_append front (t ∷ more) (Some reading.NoName) ∙ ap (read_on (t ∷ more)) h)) ∙ variable_read (front ++ (t ∷ more)) g)))
+    whole_none more (read_next r (sign_of t)) e
+    (ap whole_in (sym (read_append front (t ∷ more) (Some reading.NoName) ∙ ap (read_on (t ∷ more)) h)) ∙ variable_read (front ++ (t ∷ more)) g)))
 
 pub variable_ends : (ts : List Token) (r : Reading) (last : ℕ) → read_on ts (Some reading.NoName) ≡ Some r → is_whole r ≡ false → LeavesFirst (HasTail variable) ts last last
 variable_ends ts r last h e =

@@ -1,9 +1,9 @@
 -- Which words are those of commands.
-use Rattle.std.proofs.Common.{◌≡◌, ℕ, Bool, true, false, cond, List, [], ◌∷◌, codes, Option, Some, None, refl, sym, ◌∙◌, ap, subst}
+use Rattle.std.proofs.Common.{◌≡◌, ℕ, Bool, true, false, cond, List, ◌∷◌, Option, Some, None, refl, sym, ◌∙◌, ap, subst}
 use Rattle.core_text.specs.Words.{same_bytes}
 use Rattle.core_text.proofs.NameLaws.{same_bytes-only}
 use Rattle.tps_reader.specs.Tokens.{Sign, open_square, close_square, open_round, close_round, dot, tilde, semicolon, number, word, Token, sign_of}
-use Rattle.script_text.specs.Grammar.{IsKnown, IsUnknown}
+use Rattle.script_text.specs.Grammar.{IsUnknown}
 use Rattle.script_text.specs.Words.{command_word, word_of, word_text}
 use Rattle.script_text.specs.declared.words.CommandWord.{CommandWord}
 use Rattle.script_text.specs.declared.words.CommandWord.TheVariants as verb

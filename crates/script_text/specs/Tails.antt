@@ -1,5 +1,5 @@
 -- What stands behind the word of a command and the numerals that always follow it, and how that is left.
-use Rattle.std.specs.Prelude.{◌≡◌, ℕ, ◌+◌, ◌≤◌, Bool, true, false, List, [], ◌∷◌, ◌++◌, length, map, Option, Some, None}
+use Rattle.std.specs.Prelude.{◌≡◌, ℕ, ◌+◌, ◌^◌, ◌<◌, ◌≤◌, Bool, true, false, List, [], ◌∷◌, ◌++◌, length, map, Option, Some, None}
 use Rattle.std.specs.List.Sorted.{IsStrictlyIncreasing}
 use Rattle.hol_terms.specs.Names.{IsName}
 use Rattle.tps_reader.specs.Raws.{RawFormula}
@@ -114,10 +114,10 @@ moved_fault origin (raw_fault.TooDeep depth) = InPhrase (raw_fault.TooDeep depth
 moved_fault origin (raw_fault.Unexpected place) = InPhrase (raw_fault.Unexpected (origin + place))
 moved_fault origin raw_fault.Memory = InPhrase raw_fault.Memory
 
--- the place of the fault, counted from the start of the line, is at most this
-abbrev pub IsWithin : ℕ → RawFault → ℕ → Type 0
-IsWithin origin raw_fault.NotUtf8 last = Unit {0}
-IsWithin origin (raw_fault.BadCharacter place) last = Unit {0}
-IsWithin origin (raw_fault.TooDeep depth) last = Unit {0}
-IsWithin origin (raw_fault.Unexpected place) last = origin + place ≤ last
-IsWithin origin raw_fault.Memory last = Unit {0}
+-- the place of the fault, counted from the start of the line, has 64 bits
+abbrev pub FitsBehind : ℕ → RawFault → Type 0
+FitsBehind origin raw_fault.NotUtf8 = Unit {0}
+FitsBehind origin (raw_fault.BadCharacter place) = Unit {0}
+FitsBehind origin (raw_fault.TooDeep depth) = Unit {0}
+FitsBehind origin (raw_fault.Unexpected place) = origin + place < 2 ^ 64
+FitsBehind origin raw_fault.Memory = Unit {0}

@@ -1,5 +1,5 @@
 -- How a name with its written type is read token by token.
-use Rattle.std.specs.Prelude.{ℕ, ◌+◌, ◌-◌, nat_eq, Bool, true, false, ◌&&◌, if◌then◌else◌, List, [], ◌∷◌, encode_utf8_all, is_some, Option, Some, None}
+use Rattle.std.specs.Prelude.{ℕ, ◌+◌, ◌-◌, nat_eq, Bool, true, false, if◌then◌else◌, List, [], ◌∷◌, encode_utf8_all, is_some, Option, Some, None}
 use Rattle.core_text.specs.Words.{is_name}
 use Rattle.tps_reader.specs.Grammar.{is_letters}
 use Rattle.tps_reader.specs.Tokens.{Sign, open_square, close_square, open_round, close_round, dot, tilde, semicolon, number, word, Token, sign_of}

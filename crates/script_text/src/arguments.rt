@@ -16,36 +16,61 @@ use std::alloc::Global;
 use tps_reader::lexemes::Lexeme;
 
 /// PROVE with its goal.
-fn prove(alloc: Global, numbers: &[u64], lexemes: &[Lexeme], end: u64) -> Result<ScriptCommand, CommandFault>
+fn prove(
+    alloc: Global,
+    numbers: &[u64],
+    lexemes: &[Lexeme],
+    end: u64,
+) -> Result<ScriptCommand, CommandFault>
     requires count { length numbers.now ≡ 1 }
     requires rises { Rises 0 (plain_tokens lexemes.now) end }
     ensures command { IfOk result (λ c. Asks CommandWord.Prove numbers.now (plain_tokens lexemes.now) (plain_script c)) }
     ensures fault { IfErr result (λ fault. IsFaultIn (HasTail (tail_of CommandWord.Prove)) (plain_tokens lexemes.now) end fault) }
 {
     let goal = read_one(alloc, lexemes, end)?;
-    Ok(ScriptCommand::Prove { number: numbers[0], goal })
+    Ok(ScriptCommand::Prove {
+        number: numbers[0],
+        goal,
+    })
 }
 
 /// PLAN with its hypotheses and its formula.
-fn plan(alloc: Global, numbers: &[u64], lexemes: &[Lexeme], end: u64) -> Result<ScriptCommand, CommandFault>
+fn plan(
+    alloc: Global,
+    numbers: &[u64],
+    lexemes: &[Lexeme],
+    end: u64,
+) -> Result<ScriptCommand, CommandFault>
     requires count { length numbers.now ≡ 1 }
     requires rises { Rises 0 (plain_tokens lexemes.now) end }
     ensures command { IfOk result (λ c. Asks CommandWord.Plan numbers.now (plain_tokens lexemes.now) (plain_script c)) }
     ensures fault { IfErr result (λ fault. IsFaultIn (HasTail (tail_of CommandWord.Plan)) (plain_tokens lexemes.now) end fault) }
 {
     let (hyps, formula) = read_rising(alloc, lexemes, end)?;
-    Ok(ScriptCommand::Plan { number: numbers[0], hyps, formula })
+    Ok(ScriptCommand::Plan {
+        number: numbers[0],
+        hyps,
+        formula,
+    })
 }
 
 /// P with its formula.
-fn suppose(alloc: Global, numbers: &[u64], lexemes: &[Lexeme], end: u64) -> Result<ScriptCommand, CommandFault>
+fn suppose(
+    alloc: Global,
+    numbers: &[u64],
+    lexemes: &[Lexeme],
+    end: u64,
+) -> Result<ScriptCommand, CommandFault>
     requires count { length numbers.now ≡ 1 }
     requires rises { Rises 0 (plain_tokens lexemes.now) end }
     ensures command { IfOk result (λ c. Asks CommandWord.P numbers.now (plain_tokens lexemes.now) (plain_script c)) }
     ensures fault { IfErr result (λ fault. IsFaultIn (HasTail (tail_of CommandWord.P)) (plain_tokens lexemes.now) end fault) }
 {
     let formula = read_one(alloc, lexemes, end)?;
-    Ok(ScriptCommand::P { number: numbers[0], formula })
+    Ok(ScriptCommand::P {
+        number: numbers[0],
+        formula,
+    })
 }
 
 /// DEDUCT, which has numerals alone.
@@ -55,71 +80,132 @@ fn deduct(numbers: &[u64], lexemes: &[Lexeme]) -> Result<ScriptCommand, CommandF
     ensures fault { IfErr result (λ fault. (last : ℕ) → IsFaultIn (HasTail (tail_of CommandWord.Deduct)) (plain_tokens lexemes.now) last fault) }
 {
     read_nothing(lexemes)?;
-    Ok(ScriptCommand::Deduct { number: numbers[0], src: numbers[1], hyp: numbers[2] })
+    Ok(ScriptCommand::Deduct {
+        number: numbers[0],
+        src: numbers[1],
+        hyp: numbers[2],
+    })
 }
 
 /// UI with its term.
-fn instantiate(alloc: Global, numbers: &[u64], lexemes: &[Lexeme], end: u64) -> Result<ScriptCommand, CommandFault>
+fn instantiate(
+    alloc: Global,
+    numbers: &[u64],
+    lexemes: &[Lexeme],
+    end: u64,
+) -> Result<ScriptCommand, CommandFault>
     requires count { length numbers.now ≡ 2 }
     requires rises { Rises 0 (plain_tokens lexemes.now) end }
     ensures command { IfOk result (λ c. Asks CommandWord.Ui numbers.now (plain_tokens lexemes.now) (plain_script c)) }
     ensures fault { IfErr result (λ fault. IsFaultIn (HasTail (tail_of CommandWord.Ui)) (plain_tokens lexemes.now) end fault) }
 {
     let term = read_one(alloc, lexemes, end)?;
-    Ok(ScriptCommand::Ui { number: numbers[0], src: numbers[1], term })
+    Ok(ScriptCommand::Ui {
+        number: numbers[0],
+        src: numbers[1],
+        term,
+    })
 }
 
 /// UGEN with its variable.
-fn generalize(alloc: Global, numbers: &[u64], lexemes: &[Lexeme], end: u64) -> Result<ScriptCommand, CommandFault>
+fn generalize(
+    alloc: Global,
+    numbers: &[u64],
+    lexemes: &[Lexeme],
+    end: u64,
+) -> Result<ScriptCommand, CommandFault>
     requires count { length numbers.now ≡ 2 }
     ensures command { IfOk result (λ c. Asks CommandWord.Ugen numbers.now (plain_tokens lexemes.now) (plain_script c)) }
     ensures fault { IfErr result (λ fault. IsFaultIn (HasTail (tail_of CommandWord.Ugen)) (plain_tokens lexemes.now) end fault) }
 {
     let var = read_variable(alloc, lexemes, end)?;
-    Ok(ScriptCommand::Ugen { number: numbers[0], src: numbers[1], var })
+    Ok(ScriptCommand::Ugen {
+        number: numbers[0],
+        src: numbers[1],
+        var,
+    })
 }
 
 /// EGEN with its term and its formula.
-fn witness(alloc: Global, numbers: &[u64], lexemes: &[Lexeme], end: u64) -> Result<ScriptCommand, CommandFault>
+fn witness(
+    alloc: Global,
+    numbers: &[u64],
+    lexemes: &[Lexeme],
+    end: u64,
+) -> Result<ScriptCommand, CommandFault>
     requires count { length numbers.now ≡ 2 }
     requires rises { Rises 0 (plain_tokens lexemes.now) end }
     ensures command { IfOk result (λ c. Asks CommandWord.Egen numbers.now (plain_tokens lexemes.now) (plain_script c)) }
     ensures fault { IfErr result (λ fault. IsFaultIn (HasTail (tail_of CommandWord.Egen)) (plain_tokens lexemes.now) end fault) }
 {
     let (term, formula) = read_two(alloc, lexemes, end)?;
-    Ok(ScriptCommand::Egen { number: numbers[0], src: numbers[1], term, formula })
+    Ok(ScriptCommand::Egen {
+        number: numbers[0],
+        src: numbers[1],
+        term,
+        formula,
+    })
 }
 
 /// RULEC with its name.
-fn choose(alloc: Global, numbers: &[u64], lexemes: &[Lexeme], end: u64) -> Result<ScriptCommand, CommandFault>
+fn choose(
+    alloc: Global,
+    numbers: &[u64],
+    lexemes: &[Lexeme],
+    end: u64,
+) -> Result<ScriptCommand, CommandFault>
     requires count { length numbers.now ≡ 4 }
     ensures command { IfOk result (λ c. Asks CommandWord.Rulec numbers.now (plain_tokens lexemes.now) (plain_script c)) }
     ensures fault { IfErr result (λ fault. IsFaultIn (HasTail (tail_of CommandWord.Rulec)) (plain_tokens lexemes.now) end fault) }
 {
     let var = read_name(alloc, lexemes, end)?;
-    Ok(ScriptCommand::Rulec { number: numbers[0], some_line: numbers[1], hyp: numbers[2], src: numbers[3], var })
+    Ok(ScriptCommand::Rulec {
+        number: numbers[0],
+        some_line: numbers[1],
+        hyp: numbers[2],
+        src: numbers[3],
+        var,
+    })
 }
 
 /// LAMBDA with its formula.
-fn convert(alloc: Global, numbers: &[u64], lexemes: &[Lexeme], end: u64) -> Result<ScriptCommand, CommandFault>
+fn convert(
+    alloc: Global,
+    numbers: &[u64],
+    lexemes: &[Lexeme],
+    end: u64,
+) -> Result<ScriptCommand, CommandFault>
     requires count { length numbers.now ≡ 2 }
     requires rises { Rises 0 (plain_tokens lexemes.now) end }
     ensures command { IfOk result (λ c. Asks CommandWord.Lambda numbers.now (plain_tokens lexemes.now) (plain_script c)) }
     ensures fault { IfErr result (λ fault. IsFaultIn (HasTail (tail_of CommandWord.Lambda)) (plain_tokens lexemes.now) end fault) }
 {
     let formula = read_one(alloc, lexemes, end)?;
-    Ok(ScriptCommand::Lambda { number: numbers[0], src: numbers[1], formula })
+    Ok(ScriptCommand::Lambda {
+        number: numbers[0],
+        src: numbers[1],
+        formula,
+    })
 }
 
 /// RULEP with its lines and its formula.
-fn follow(alloc: Global, numbers: &[u64], lexemes: &[Lexeme], end: u64) -> Result<ScriptCommand, CommandFault>
+fn follow(
+    alloc: Global,
+    numbers: &[u64],
+    lexemes: &[Lexeme],
+    end: u64,
+) -> Result<ScriptCommand, CommandFault>
     requires count { length numbers.now ≡ 1 }
     requires rises { Rises 0 (plain_tokens lexemes.now) end }
     ensures command { IfOk result (λ c. Asks CommandWord.Rulep numbers.now (plain_tokens lexemes.now) (plain_script c)) }
     ensures fault { IfErr result (λ fault. IsFaultIn (HasTail (tail_of CommandWord.Rulep)) (plain_tokens lexemes.now) end fault) }
 {
     let (src, formula) = read_numbered(alloc, lexemes, end)?;
-    Ok(ScriptCommand::Rulep { number: numbers[0], src, formula })
+    Ok(ScriptCommand::Rulep {
+        number: numbers[0],
+        src,
+        formula,
+    })
 }
 
 /// UNDO, which stands alone.

@@ -20,11 +20,7 @@ use tps_reader::readers::DEEPEST;
 use tps_reader::tokens::read_tokens;
 
 /// The command of the tokens of a line, which end before `end`.
-fn command_of(
-    alloc: Global,
-    lexemes: &[Lexeme],
-    end: u64,
-) -> Result<ScriptCommand, CommandFault>
+fn command_of(alloc: Global, lexemes: &[Lexeme], end: u64) -> Result<ScriptCommand, CommandFault>
     requires { Rises 0 (plain_tokens lexemes.now) end }
     ensures command { IfOk result (λ c. IsCommand (plain_tokens lexemes.now) (plain_script c)) }
     ensures fault { IfErr result (λ fault. IsTokensFault (plain_tokens lexemes.now) end fault) }

@@ -3,7 +3,7 @@
 ghost use Rattle.std.specs.Prelude.{[], ◌≡◌, ◌↔◌, ◌<◌, ◌≤◌, ◌++◌, ◌∷◌, IsTrue, false, true, IfErr, IfOk, List, drop, length, map, take, ℕ, ◌^◌};
 ghost use Rattle.std.specs.List.Sorted.{IsStrictlyIncreasing};
 ghost use Rattle.script_text.specs.Grammar.{IsPhraseOf, Leads};
-ghost use Rattle.script_text.specs.Tails.{HasTail, IsFaultIn, IsWithin, NoSemicolon, Rises, SemicolonFirst, moved_fault, no_more, numbered, one_phrase, two_phrases};
+ghost use Rattle.script_text.specs.Tails.{HasTail, IsFaultIn, FitsBehind, NoSemicolon, Rises, SemicolonFirst, moved_fault, no_more, numbered, one_phrase, two_phrases};
 ghost use Rattle.tps_reader.specs.Raws.{plain_raw};
 ghost use Rattle.tps_reader.specs.Tokens.{Token, number, semicolon, sign_of};
 ghost use Rattle.tps_reader.specs.Views.{plain_sign, plain_tokens};
@@ -31,8 +31,8 @@ pub fn read_nothing(lexemes: &[Lexeme]) -> Result<(), CommandFault>
 }
 
 /// The fault of a phrase, its place counted from the start of the line.
-fn moved(fault: RawFault, origin: u64, last: u64) -> CommandFault
-    requires { IsWithin origin fault last }
+fn moved(fault: RawFault, origin: u64) -> CommandFault
+    requires { FitsBehind origin fault }
     ensures { result ≡ moved_fault origin fault }
 {
     match fault {
@@ -53,16 +53,12 @@ pub fn read_one(alloc: Global, lexemes: &[Lexeme], end: u64) -> Result<Raw, Comm
     let origin = place_at(lexemes, 0, 0);
     match read_phrase(alloc, lexemes, origin, end - origin) {
         Ok(raw) => Ok(raw),
-        Err(fault) => Err(moved(fault, origin, end)),
+        Err(fault) => Err(moved(fault, origin)),
     }
 }
 
 /// Rising numerals, and then a phrase.
-pub fn read_rising(
-    alloc: Global,
-    lexemes: &[Lexeme],
-    end: u64,
-) -> Result<(Hyps, Raw), CommandFault>
+pub fn read_rising(alloc: Global, lexemes: &[Lexeme], end: u64) -> Result<(Hyps, Raw), CommandFault>
     requires { Rises 0 (plain_tokens lexemes.now) end }
     ensures parts { IfOk result (λ p. (back : List Token) × Leads (map number p.0) back (plain_tokens lexemes.now) × IsStrictlyIncreasing p.0 × IsPhraseOf back (plain_raw p.1)) }
     ensures fault { IfErr result (λ fault. IsFaultIn (HasTail (numbered true)) (plain_tokens lexemes.now) end fault) }

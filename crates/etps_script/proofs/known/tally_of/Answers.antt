@@ -1,4 +1,4 @@
-use Rattle.std.proofs.Common.{List, ◌+◌, drop, map, subst, length, arith}
+use Rattle.std.proofs.Common.{List, ◌+◌, drop, map, subst, arith}
 use Rattle.std.proofs.lemmas.List.{at_drop_all}
 use Rattle.nd_rules.specs.Lines.{DeductionLine, plain_line}
 use Rattle.nd_rules.specs.declared.lines.Line.{Line}

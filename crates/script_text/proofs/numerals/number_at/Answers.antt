@@ -1,4 +1,4 @@
-use Rattle.std.proofs.Common.{◌≡◌, ◌∙◌, ap, sym}
+use Rattle.std.proofs.Common.{◌∙◌, ap, sym}
 use Rattle.tps_reader.specs.Views.{plain_sign}
 use Rattle.tps_reader.specs.declared.lexemes.Lexeme.{Lexeme}
 use Rattle.script_text.specs.Tails.{first_number, number_in}

@@ -1,8 +1,8 @@
-use Rattle.std.proofs.Common.{◌≡◌, ◌<◌, ◌+◌, ◌++◌, ◌∷◌, ◌∙◌, List, [], ap, arith, drop, false, length, map, refl, subst, sym, true, ℕ}
+use Rattle.std.proofs.Common.{◌≡◌, ◌+◌, ◌++◌, ◌∷◌, ◌∙◌, List, [], ap, arith, drop, false, length, map, refl, subst, sym, true, ℕ}
 use Rattle.std.specs.List.Sorted.{IsStrictlyIncreasing}
 use Rattle.std.proofs.lemmas.List.{length-append}
 use Rattle.hol_terms.specs.Lists.{IsAboveLast}
-use Rattle.tps_reader.specs.Tokens.{Token, number}
+use Rattle.tps_reader.specs.Tokens.{number}
 use Rattle.tps_reader.specs.Views.{plain_token, plain_tokens}
 use Rattle.tps_reader.specs.declared.faults.RawFault.TheVariants.{Unexpected}
 use Rattle.tps_reader.specs.declared.lexemes.Lexeme.{Lexeme}

@@ -1,4 +1,4 @@
-use Rattle.std.proofs.Common.{◌≡◌, ◌<◌, ◌∷◌, ◌∙◌, ℕ, List, [], Some, ap, drop, length, map, subst, sym}
+use Rattle.std.proofs.Common.{◌≡◌, ◌<◌, ◌∷◌, ◌∙◌, ℕ, List, ap, drop, length, map, subst, sym}
 use Rattle.std.proofs.lemmas.Result.{err_from_is_err_and}
 use Rattle.tps_reader.proofs.Results.{if_err, if_ok}
 use Rattle.tps_reader.specs.Tokens.{Token, number, sign_of, word}
@@ -72,5 +72,5 @@ returns-clause-fault c =
     let leads : Leads (map number ns) back rest =
     subst (λ (l : List Token). Leads (map number ns) l rest) (sym c.behind.ensures) (subst (λ (l : List ℕ). Leads (map number l) (drop c.numerals-count.result rest) rest) (sym c.deref.ensures.value) c.in_ok-numbers.ensures.leads) in
     let last = c.args.end in
-    let long : length ns ≡ numeral_count k = ap length c.deref.ensures.value ∙ c.in_ok-numbers.ensures.count ∙ c.numerals-count.ensures in
+    let long : length ns ≡ numeral_count k = c.deref.ensures.len ∙ c.in_ok-numbers.ensures.count ∙ c.numerals-count.ensures in
     if_err (IsFaultIn (HasTail (tail_of k)) back last) (IsTokensFault ts last) (λ fault h. tail_missing k ts t ns rest back last fault parts is leads long h) c.arguments.result c.arguments.ensures.fault

@@ -1,4 +1,4 @@
-use Rattle.std.proofs.Common.{◌≡◌, ◌≢◌, ◌≤◌, ◌∙◌, List, ap, arith, length, subst, sym}
+use Rattle.std.proofs.Common.{◌≡◌, ◌≢◌, ◌≤◌, List, ap, arith, length, subst, sym}
 use Rattle.tps_reader.proofs.Results.{if_err, if_ok}
 use Rattle.tps_reader.specs.Depth.{depth_of}
 use Rattle.tps_reader.specs.Tokens.{Token}

@@ -1,4 +1,4 @@
-use Rattle.std.proofs.Common.{◌≡◌, ◌≤◌, ◌-◌, ◌∙◌, List, ap, arith, drop, length, take}
+use Rattle.std.proofs.Common.{◌≤◌, ◌-◌, ◌∙◌, List, ap, arith, drop, length}
 use Rattle.std.proofs.lemmas.List.{length-drop, take_all}
 use Rattle.tps_reader.specs.Views.{plain_tokens}
 use Rattle.tps_reader.specs.declared.lexemes.Lexeme.{Lexeme}

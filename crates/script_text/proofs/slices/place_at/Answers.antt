@@ -1,4 +1,4 @@
-use Rattle.std.proofs.Common.{◌≡◌, ◌∙◌, List, ap, sym}
+use Rattle.std.proofs.Common.{◌∙◌, List, ap, sym}
 use Rattle.tps_reader.specs.Tokens.{Token}
 use Rattle.tps_reader.specs.declared.lexemes.Lexeme.{Lexeme}
 use Rattle.script_text.specs.Tails.{first_or}

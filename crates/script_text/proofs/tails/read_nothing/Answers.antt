@@ -1,4 +1,4 @@
-use Rattle.std.proofs.Common.{◌≡◌, ◌<◌, ◌∙◌, List, ap, drop, length, subst, sym}
+use Rattle.std.proofs.Common.{◌<◌, ◌∙◌, List, ap, drop, length, subst, sym}
 use Rattle.tps_reader.specs.Tokens.{Token}
 use Rattle.tps_reader.specs.Views.{plain_token, plain_tokens}
 use Rattle.tps_reader.specs.declared.faults.RawFault.TheVariants.{Unexpected}

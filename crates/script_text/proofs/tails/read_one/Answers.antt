@@ -3,9 +3,9 @@ use Rattle.tps_reader.specs.Faults.{IsPhraseFault}
 use Rattle.tps_reader.specs.Tokens.{tokens_from}
 use Rattle.tps_reader.specs.Views.{plain_tokens}
 use Rattle.script_text.specs.Grammar.{first_place}
-use Rattle.script_text.specs.Tails.{HasTail, IsFaultIn, IsWithin, moved_fault, one_phrase}
+use Rattle.script_text.specs.Tails.{HasTail, IsFaultIn, FitsBehind, moved_fault, one_phrase}
 use Rattle.script_text.specs.declared.faults.CommandFault.{CommandFault}
-use Rattle.script_text.proofs.Phrasing.{first_start, phrase_fault, phrase_within}
+use Rattle.script_text.proofs.Phrasing.{first_start, phrase_fault, phrase_fits}
 use Rattle.script_text.proofs.Rising.{first_low}
 use Rattle.script_text.proofs.tails.read_one.Goals as goal
 
@@ -22,7 +22,7 @@ moved-requires c =
     let last = c.args.end in
     let e : c.place_at-origin.result ≡ first_place ts = c.place_at-origin.ensures ∙ first_start ts in
     let h = subst (λ (k : ℕ). IsPhraseFault (tokens_from k ts) (last - k) c.in-Err.fault) e c.in-Err.ensures.fault in
-    subst (λ (k : ℕ). IsWithin k c.in-Err.fault last) (sym e) (phrase_within ts last c.in-Err.fault c.requires h)
+    subst (λ (k : ℕ). FitsBehind k c.in-Err.fault) (sym e) (phrase_fits ts last c.in-Err.fault c.ranges.end.fits c.requires h)
 
 pub returns-in-Err-clause-fault : goal.returns-in-Err-clause-fault
 returns-in-Err-clause-fault c =

@@ -1,12 +1,11 @@
-use Rattle.std.proofs.Common.{◌≡◌, ◌≢◌, ◌<◌, ◌≤◌, ◌+◌, ◌++◌, ◌∷◌, ◌∙◌, ℕ, List, [], None, Some, false, true, ap, arith, drop, length, map, refl, subst, sym, take}
+use Rattle.std.proofs.Common.{◌≡◌, ◌<◌, ◌≤◌, ◌+◌, ◌∙◌, ℕ, List, arith, drop, length, subst, sym, take}
 use Rattle.std.proofs.lemmas.Result.{err_from_is_err_and}
 use Rattle.tps_reader.specs.Raws.{plain_raw}
 use Rattle.tps_reader.specs.Tokens.{Token, semicolon, sign_of}
 use Rattle.tps_reader.specs.Views.{plain_tokens}
 use Rattle.std.proofs.lemmas.List.{take-append-drop, take_all}
 use Rattle.script_text.specs.Grammar.{IsPhraseOf}
-use Rattle.script_text.specs.Languages.{LeavesFirst}
-use Rattle.script_text.specs.Tails.{HasTail, IsFaultIn, NoSemicolon, Rises, SemicolonFirst, first_or, one_phrase, two_phrases}
+use Rattle.script_text.specs.Tails.{HasTail, IsFaultIn, NoSemicolon, Rises, SemicolonFirst, one_phrase, two_phrases}
 use Rattle.script_text.proofs.Rising.{rises_drop}
 use Rattle.script_text.proofs.Slicing.{token_count, unexpected_at}
 use Rattle.script_text.proofs.Tailing.{front_fails, front_rises, lone_ends, second_fails, two_parts}

@@ -1,5 +1,5 @@
-use Rattle.std.proofs.Common.{◌≡◌, ◌+◌, ◌∙◌, List, ap, drop, false, refl, subst, sym, true}
-use Rattle.tps_reader.specs.Tokens.{Token, semicolon, sign_of}
+use Rattle.std.proofs.Common.{◌≡◌, ◌+◌, ◌∙◌, ap, drop, false, refl, subst, sym, true}
+use Rattle.tps_reader.specs.Tokens.{semicolon}
 use Rattle.tps_reader.specs.Views.{plain_sign, plain_token, plain_tokens}
 use Rattle.tps_reader.specs.declared.lexemes.Lexeme.{Lexeme}
 use Rattle.script_text.specs.Tails.{SemicolonFirst}

@@ -1,4 +1,4 @@
-use Rattle.std.proofs.Common.{◌≡◌, ◌≢◌, ◌<◌, ◌≤◌, ◌+◌, ◌++◌, ◌∷◌, ◌∙◌, ℕ, List, [], None, Some, false, true, ap, arith, drop, length, map, refl, subst, sym, take}
+use Rattle.std.proofs.Common.{◌≡◌, ◌<◌, ◌∷◌, ◌∙◌, List, None, Some, ap, drop, length, subst, sym}
 use Rattle.tps_reader.specs.Tokens.{Token, sign_of}
 use Rattle.tps_reader.specs.Views.{plain_sign, plain_token, plain_tokens}
 use Rattle.tps_reader.specs.declared.faults.RawFault.TheVariants.{Unexpected}

@@ -1,4 +1,4 @@
-use Rattle.std.proofs.Common.{◌≡◌, ◌≢◌, ◌<◌, ◌≤◌, ◌+◌, ◌++◌, ◌∷◌, ◌∙◌, ℕ, List, [], None, Some, false, true, ap, arith, drop, length, map, refl, subst, sym, take}
+use Rattle.std.proofs.Common.{◌∙◌, Some, sym}
 use Rattle.tps_reader.specs.Views.{plain_tokens}
 use Rattle.script_text.specs.Tails.{HasTail, variable}
 use Rattle.script_text.proofs.Slicing.{unexpected_at}

@@ -1,6 +1,6 @@
-use Rattle.std.proofs.Common.{◌≡◌, ◌≢◌, ◌<◌, ◌≤◌, ◌+◌, ◌++◌, ◌∷◌, ◌∙◌, ℕ, List, [], None, Some, false, true, ap, arith, drop, length, map, refl, subst, sym, take}
+use Rattle.std.proofs.Common.{◌≡◌, ◌∙◌, ℕ, subst, sym}
 use Rattle.tps_reader.specs.Grammar.{IsFormula}
-use Rattle.tps_reader.specs.Raws.{RawFormula, plain_raw}
+use Rattle.tps_reader.specs.Raws.{plain_raw}
 use Rattle.tps_reader.specs.Tokens.{tokens_from}
 use Rattle.tps_reader.specs.Views.{plain_tokens}
 use Rattle.script_text.specs.Grammar.{first_place}

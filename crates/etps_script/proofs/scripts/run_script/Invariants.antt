@@ -1,0 +1,10 @@
+use Rattle.std.proofs.Common.{length}
+use Rattle.etps_script.specs.Lines.{script_lines}
+use Rattle.etps_script.proofs.Replying.{Continues}
+use Rattle.etps_script.proofs.scripts.run_script.Given as goal
+
+abbrev pub invariant-loop-rest : goal.invariant-loop-rest
+invariant-loop-rest l = Continues l.session (script_lines l.rest) (script_lines l.bytes) l.out
+
+abbrev pub decreases-loop-rest : goal.decreases-loop-rest
+decreases-loop-rest l = length l.rest
