@@ -20,12 +20,9 @@ pub record HasTwoTerms (raw : RawFormula) (wanted : Option SimpleType) (known : 
 -- why a phrase has no term: it has no annotation, or more than one. Want of memory is free.
 abbrev pub IsUntyped : RawFormula → Option SimpleType → List Variable → Refusal → Type 0
 IsUntyped raw wanted known refusal.Memory = Unit {0}
-IsUntyped raw wanted known refusal.NoGoal = ⊥
-IsUntyped raw wanted known refusal.NumberTaken = ⊥
 IsUntyped raw wanted known refusal.NoTyping = (t : Term) → Annotates raw wanted known t → ⊥
 IsUntyped raw wanted known refusal.Ambiguous = HasTwoTerms raw wanted known
-IsUntyped raw wanted known (refusal.Rule fault) = ⊥
-IsUntyped raw wanted known refusal.NothingToUndo = ⊥
+IsUntyped raw wanted known e = ⊥
 
 -- the only term for which the phrase stands beside the lines, whose names are known
 pub record Means (lines : List DeductionLine) (raw : RawFormula) (wanted : Option SimpleType) (t : Term) : Type 0 where

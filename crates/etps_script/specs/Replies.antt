@@ -12,7 +12,7 @@ use Rattle.etps_session.specs.Commands.{Request, number_of}
 use Rattle.etps_session.specs.Progress.{IsUndoFault, IsUndone, first_planned_for}
 use Rattle.etps_session.specs.Replays.{Goal, SessionState, replay, with_request}
 use Rattle.etps_session.specs.declared.faults.UndoFault.{UndoFault}
-use Rattle.script_text.specs.Commands.{ScriptRequest, say_nothing, say_prove, say_plan, say_suppose, say_deduce, say_instantiate, say_generalize, say_witness, say_choose, say_convert, say_follow, say_undo, say_done}
+use Rattle.script_text.specs.Commands.{ScriptRequest, say_nothing, say_prove, say_undo, say_done}
 use Rattle.etps_script.specs.Phrases.{IsUntyped}
 use Rattle.etps_script.specs.Refusals.{refused_reply, undo_refusal}
 use Rattle.etps_script.specs.Requests.{Asks, AsksNothing, is_taken}
@@ -77,10 +77,8 @@ abbrev pub IsUnaccepted : SessionState → Request → Refusal → Type 0
 IsUnaccepted s r refusal.Memory = Unit {0}
 IsUnaccepted s r refusal.NoGoal = is_some s.goal ≡ false
 IsUnaccepted s r refusal.NumberTaken = IsStarted s × (is_number_taken (replay s) r ≡ true)
-IsUnaccepted s r refusal.NoTyping = ⊥
-IsUnaccepted s r refusal.Ambiguous = ⊥
 IsUnaccepted s r (refusal.Rule fault) = (fault ≢ rule.Memory) × IsRefusal (replay s) r fault
-IsUnaccepted s r refusal.NothingToUndo = ⊥
+IsUnaccepted s r e = ⊥
 
 -- the request of the step is refused by the rules
 abbrev pub IsAgainstRules : List DeductionLine → ScriptRequest → RuleFault → Type 0
@@ -125,14 +123,6 @@ pub record IsNoStep (s : SessionState) (c : ScriptRequest) (new : SessionState) 
 abbrev pub Replied : SessionState → ScriptRequest → SessionState → List ℕ → Type 0
 Replied s say_nothing new out = (new ≡ s) × (out ≡ [])
 Replied s (say_prove n a) new out = IsBegun n a new out ⊎ IsNotBegun s a new out
-Replied s (say_plan n hs a) new out = IsStep s (say_plan n hs a) new out ⊎ IsNoStep s (say_plan n hs a) new out
-Replied s (say_suppose n a) new out = IsStep s (say_suppose n a) new out ⊎ IsNoStep s (say_suppose n a) new out
-Replied s (say_deduce n d h) new out = IsStep s (say_deduce n d h) new out ⊎ IsNoStep s (say_deduce n d h) new out
-Replied s (say_instantiate n d t) new out = IsStep s (say_instantiate n d t) new out ⊎ IsNoStep s (say_instantiate n d t) new out
-Replied s (say_generalize n d a) new out = IsStep s (say_generalize n d a) new out ⊎ IsNoStep s (say_generalize n d a) new out
-Replied s (say_witness n d t a) new out = IsStep s (say_witness n d t a) new out ⊎ IsNoStep s (say_witness n d t a) new out
-Replied s (say_choose n e h d a) new out = IsStep s (say_choose n e h d a) new out ⊎ IsNoStep s (say_choose n e h d a) new out
-Replied s (say_convert n d a) new out = IsStep s (say_convert n d a) new out ⊎ IsNoStep s (say_convert n d a) new out
-Replied s (say_follow n ds a) new out = IsStep s (say_follow n ds a) new out ⊎ IsNoStep s (say_follow n ds a) new out
 Replied s say_undo new out = IsTakenBack s new out ⊎ IsNotTakenBack s new out
 Replied s say_done new out = (new ≡ s) × (out ≡ done_reply s)
+Replied s c new out = IsStep s c new out ⊎ IsNoStep s c new out

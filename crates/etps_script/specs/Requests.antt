@@ -7,17 +7,15 @@ use Rattle.nd_rules.specs.Rules.{existence, universal}
 use Rattle.nd_rules.specs.declared.faults.RuleFault.TheVariants as rule
 use Rattle.etps_session.specs.Answers.{is_planned}
 use Rattle.etps_session.specs.Commands.{Request, suppose, plan, deduce, instantiate, generalize, witness, choose, convert, follow}
-use Rattle.script_text.specs.Commands.{ScriptRequest, say_nothing, say_prove, say_plan, say_suppose, say_deduce, say_instantiate, say_generalize, say_witness, say_choose, say_convert, say_follow, say_undo, say_done}
+use Rattle.script_text.specs.Commands.{ScriptRequest, say_plan, say_suppose, say_deduce, say_instantiate, say_generalize, say_witness, say_choose, say_convert, say_follow}
 use Rattle.etps_script.specs.Phrases.{IsMeaningless, Means}
 use Rattle.etps_script.specs.declared.refusals.Refusal.{Refusal}
 use Rattle.etps_script.specs.declared.refusals.Refusal.TheVariants as refusal
 
 -- The number
 
--- the number of the line that a step makes
+-- the number of the line that a step makes; the other commands are no steps
 abbrev pub line_number : ScriptRequest → Option ℕ
-line_number say_nothing = None
-line_number (say_prove n a) = None
 line_number (say_plan n hs a) = Some n
 line_number (say_suppose n a) = Some n
 line_number (say_deduce n d h) = Some n
@@ -27,23 +25,11 @@ line_number (say_witness n d t a) = Some n
 line_number (say_choose n e h d a) = Some n
 line_number (say_convert n d a) = Some n
 line_number (say_follow n ds a) = Some n
-line_number say_undo = None
-line_number say_done = None
+line_number c = None
 
 abbrev pub is_plan : ScriptRequest → Bool
-is_plan say_nothing = false
-is_plan (say_prove n a) = false
 is_plan (say_plan n hs a) = true
-is_plan (say_suppose n a) = false
-is_plan (say_deduce n d h) = false
-is_plan (say_instantiate n d t) = false
-is_plan (say_generalize n d a) = false
-is_plan (say_witness n d t a) = false
-is_plan (say_choose n e h d a) = false
-is_plan (say_convert n d a) = false
-is_plan (say_follow n ds a) = false
-is_plan say_undo = false
-is_plan say_done = false
+is_plan c = false
 
 -- the line is finished, or is there where a line is to be planned
 abbrev pub is_in_the_way : Option DeductionLine → Bool → Bool
@@ -73,20 +59,10 @@ IsOtherBefore lines n d =
 -- why line d is no source of line n, which itself counts as a line. Want of memory is free.
 abbrev pub IsNoSource : List DeductionLine → ℕ → ℕ → Refusal → Type 0
 IsNoSource lines n d refusal.Memory = Unit {0}
-IsNoSource lines n d refusal.NoGoal = ⊥
-IsNoSource lines n d refusal.NumberTaken = ⊥
-IsNoSource lines n d refusal.NoTyping = ⊥
-IsNoSource lines n d refusal.Ambiguous = ⊥
-IsNoSource lines n d (refusal.Rule rule.Memory) = ⊥
 IsNoSource lines n d (refusal.Rule (rule.NoLine k)) = (k ≡ d) × (d ≢ n) × (line_of lines d ≡ None)
 IsNoSource lines n d (refusal.Rule (rule.NotEarlier k)) = (k ≡ d) × (n ≤ d) × (d ≢ n → IsSome (line_of lines d))
 IsNoSource lines n d (refusal.Rule rule.Shape) = IsOtherBefore lines n d
-IsNoSource lines n d (refusal.Rule rule.Hyps) = ⊥
-IsNoSource lines n d (refusal.Rule (rule.VariableFree k)) = ⊥
-IsNoSource lines n d (refusal.Rule (rule.NotFollows atoms)) = ⊥
-IsNoSource lines n d (refusal.Rule (rule.NotConvertible s t)) = ⊥
-IsNoSource lines n d (refusal.Rule rule.WrongType) = ⊥
-IsNoSource lines n d refusal.NothingToUndo = ⊥
+IsNoSource lines n d e = ⊥
 
 -- Other forms
 
@@ -94,7 +70,8 @@ IsNoSource lines n d refusal.NothingToUndo = ⊥
 abbrev pub IsShape : Refusal → Type 0
 IsShape e = e ≡ refusal.Rule rule.Shape
 
--- the phrase stands for a term that is no variable
+-- The phrase stands for a term that is no variable. In a line of a script the phrase of UGEN is always a variable; a command that was
+-- made otherwise is refused so.
 abbrev pub IsNoVariable : List DeductionLine → RawFormula → Type 0
 IsNoVariable lines raw = (t : Term) × Means lines raw None t × ((v : Variable) → t ≡ free v.0 v.1 → ⊥)
 
@@ -127,8 +104,6 @@ Asks lines c r = ⊥
 
 -- Why there is no request: UI looks at its source before its term; EGEN at its formula, then at the form of this, then at its term.
 abbrev pub AsksNothing : List DeductionLine → ScriptRequest → Refusal → Type 0
-AsksNothing lines say_nothing e = ⊥
-AsksNothing lines (say_prove n a) e = ⊥
 AsksNothing lines (say_plan n hs a) e = IsMeaningless lines a (Some truth_type) e
 AsksNothing lines (say_suppose n a) e = IsMeaningless lines a (Some truth_type) e
 AsksNothing lines (say_deduce n d h) e = e ≡ refusal.Memory
@@ -138,8 +113,7 @@ AsksNothing lines (say_generalize n d a) e = IsMeaningless lines a None e ⊎ (I
 AsksNothing lines (say_witness n d a f) e =
     IsMeaningless lines f (Some truth_type) e ⊎ (IsShape e × IsNotExistential lines f)
     ⊎ ((s : SimpleType) × IsExistentialAt lines f s × IsMeaningless lines a (Some s) e)
-AsksNothing lines (say_choose n e h d a) fault = fault ≡ refusal.Memory
+AsksNothing lines (say_choose n m h d a) e = e ≡ refusal.Memory
 AsksNothing lines (say_convert n d a) e = IsMeaningless lines a (Some truth_type) e
 AsksNothing lines (say_follow n ds a) e = IsMeaningless lines a (Some truth_type) e
-AsksNothing lines say_undo e = ⊥
-AsksNothing lines say_done e = ⊥
+AsksNothing lines c e = ⊥
