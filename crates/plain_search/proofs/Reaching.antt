@@ -71,21 +71,21 @@ module _ (formula : Term) (level weight : ℕ) (levels : List (List GrownTree)) 
   listed : weight < length levels → IsSearched formula weight level (IsListed formula levels weight)
   listed enough = record {
     start = (
-      let c = are.first.0 in
-      let candidate = are.candidates 0 c are.first.1 in
-      let s : Standing = standing_of candidate.staged in
-      let no_fill : AreNoFill (selected_variables s) =
-      All-from_recursion (λ (v : Variable). IsFill v → ⊥) (selected_variables s) (every_contained (λ (v : Variable). IsFill v → ⊥) (selected_variables s) (λ v there.
-      let one = All-contains (IsNumberedBelow c.1.next) (selected_variables s) v candidate.named there in numbered_no_fill one.0 v one.2)) in
-      let light = candidate.weighs in (
-        s,
-        c.0,
-        (c, in_list 0 c are.first.1, candidate.is_tree, omega (arith, light)),
-        candidate.is_tree,
-        are.first.2 s candidate.is_tree,
-        no_fill,
-      )
-    );
+        let c = are.first.0 in
+        let candidate = are.candidates 0 c are.first.1 in
+        let s : Standing = standing_of candidate.staged in
+        let no_fill : AreNoFill (selected_variables s) =
+        All-from_recursion (λ (v : Variable). IsFill v → ⊥) (selected_variables s) (every_contained (λ (v : Variable). IsFill v → ⊥) (selected_variables s) (λ v there.
+        let one = All-contains (IsNumberedBelow c.1.next) (selected_variables s) v candidate.named there in numbered_no_fill one.0 v one.2)) in
+        let light = candidate.weighs in (
+          s,
+          c.0,
+          (c, in_list 0 c are.first.1, candidate.is_tree, omega (arith, light)),
+          candidate.is_tree,
+          are.first.2 s candidate.is_tree,
+          no_fill,
+        )
+        );
     grows = λ s t u b' s' t' there tree grown bare after over light.
         let c = there.0 in
         let candidate = are.candidates (tree_weight c.0) c there.1 in
