@@ -29,6 +29,11 @@ prove_or_check : (options : List (List ℕ)) → codes "prove" ∷ options ≡ c
 prove_or_check options e =
     let same : 112 ≡ 99 = ap first_code e in omega (arith, same)
 
+-- s isn't e
+show_or_etps : codes "show" ∷ [] ≡ codes "etps" ∷ [] → ⊥
+show_or_etps e =
+    let same : 115 ≡ 101 = ap first_code e in omega (arith, same)
+
 -- words ask for one command
 pub words_one : (c d : Command) (words : List (List ℕ)) → AreWordsOf c words → AreWordsOf d words → c ≡ d
 words_one (Prove b) (Prove c) words (os, e, options, within) (ps, f, options', within') =
@@ -67,13 +72,13 @@ words_one Show Check words e f = cc
 words_one Show Translate words e f = cc
 words_one Show Verify words e f = cc
 words_one Show Show words e f = refl
-words_one Show Etps words e f = cc
+words_one Show Etps words e f = absurd (show_or_etps (sym e ∙ f))
 words_one Show (Generate n) words e f = cc
 words_one Etps (Prove b) words e f = cc
 words_one Etps Check words e f = cc
 words_one Etps Translate words e f = cc
 words_one Etps Verify words e f = cc
-words_one Etps Show words e f = cc
+words_one Etps Show words e f = absurd (show_or_etps (sym f ∙ e))
 words_one Etps Etps words e f = refl
 words_one Etps (Generate n) words e f = cc
 words_one (Generate n) Etps words e f = cc

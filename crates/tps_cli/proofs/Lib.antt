@@ -1,4 +1,5 @@
 pub mod Budgets
 pub mod Deciding
+pub mod Formulas
 pub mod Generating
 pub mod Showing

@@ -3,8 +3,7 @@ use Rattle.std.specs.Prelude.{◌≡◌, ℕ, List, [], ◌∷◌, ◌++◌, cod
 use Rattle.core_text.specs.Written.{written}
 use Rattle.hol_terms.specs.Terms.{Term, truth_type}
 use Rattle.plain_search.specs.Proofs.{IsLeastProof, IsProofInBudget}
-use Rattle.proof_text.specs.Forms.{proof_form}
-use Rattle.proof_text.specs.Texts.{Proof}
+use Rattle.proof_text.specs.Texts.{Proof, proof_form}
 use Rattle.tps_reader.specs.Faults.{IsFormulaText}
 use Rattle.tps_reader.specs.Raws.{RawFormula}
 use Rattle.type_infer.specs.Faults.{IsOnlyAnnotation}

@@ -1,6 +1,6 @@
 //! The command `prove`.
 
-ghost use Rattle.std.specs.Prelude.{◌≡◌, ◌≤◌, ◌++◌, ◌∷◌, IfOk, IfSome, MatchOption, Some, [], codes, decimal};
+ghost use Rattle.std.specs.Prelude.{◌≡◌, ◌↔◌, ◌≤◌, ◌++◌, ◌∷◌, IfOk, IfSome, IsTrue, MatchOption, Some, [], codes, decimal};
 ghost use Rattle.hol_terms.specs.Terms.{Term, plain_term, truth_type};
 ghost use Rattle.hol_terms.specs.Typing.{IsFormula};
 ghost use Rattle.tps_reader.specs.Faults.{IsFormulaText};
@@ -25,6 +25,13 @@ use tps_reader::readers::read_raw;
 use type_infer::inference::{InferFault, infer};
 use type_infer::laws::annotations;
 
+/// Whether the fault of a text is want of memory.
+fn text_wants_memory(fault: RawFault) -> bool
+    ensures { IsTrue result ↔ (fault ≡ RawFault.Memory) }
+{
+    matches!(fault, RawFault::Memory)
+}
+
 /// The phrase that the bytes are, `None` exactly where they are none.
 fn phrase(alloc: Global, bytes: &[u8]) -> Result<Option<Raw>, AllocError>
     ensures found { IfOk result (λ phrase. MatchOption phrase ((raw : RawFormula) → IsFormulaText bytes.now raw → ⊥) (λ raw. IsFormulaText bytes.now (plain_raw raw))) }
@@ -32,9 +39,20 @@ fn phrase(alloc: Global, bytes: &[u8]) -> Result<Option<Raw>, AllocError>
 {
     match read_raw(alloc, bytes) {
         Ok(raw) => Ok(Some(raw)),
-        Err(RawFault::Memory) => Err(AllocError),
-        Err(_) => Ok(None),
+        Err(fault) => {
+            if text_wants_memory(fault) {
+                return Err(AllocError);
+            }
+            Ok(None)
+        }
     }
+}
+
+/// Whether the fault is want of memory.
+fn wants_memory(fault: &InferFault) -> bool
+    ensures { IsTrue result ↔ (fault.now ≡ InferFault.Memory) }
+{
+    matches!(fault, InferFault::Memory)
 }
 
 /// The formula that a phrase stands for, `None` exactly where it stands for none or for more than one.
@@ -46,8 +64,12 @@ fn typed(alloc: Global, raw: &Raw) -> Result<Option<Tm>, AllocError>
     let wanted = Ty::truth();
     match infer(alloc, raw, Some(&wanted), &Vars::new(alloc)) {
         Ok(formula) => Ok(Some(formula)),
-        Err(InferFault::Memory) => Err(AllocError),
-        Err(_) => Ok(None),
+        Err(fault) => {
+            if wants_memory(&fault) {
+                return Err(AllocError);
+            }
+            Ok(None)
+        }
     }
 }
 
