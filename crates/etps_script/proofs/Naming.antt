@@ -1,5 +1,5 @@
 -- The names that an outline knows, from step to step.
-use Rattle.std.proofs.Common.{ℕ, suc, ◌<◌, List, [], ◌∷◌, ◌++◌, Bool, true, false, ◌≡◌, refl, sym, ap, subst, ◌∙◌, length, arith, inl, inr, ◌⊎◌, Some, None, append_assoc, ◌==◌, nat_lt}
+use Rattle.std.proofs.Common.{ℕ, suc, ◌<◌, List, [], ◌∷◌, ◌++◌, Bool, true, false, ◌≡◌, refl, sym, ap, subst, ◌∙◌, length, arith, inl, inr, ◌⊎◌, Some, None, Result, Ok, Err, IfOk, append_assoc, ◌==◌, nat_lt}
 use Rattle.std.specs.Prelude.{Contains, IsSome, if◌then◌else◌}
 use Rattle.std.specs.declared.option.Option.{Option}
 use Rattle.std.proofs.lemmas.List.{append-nil}
@@ -184,3 +184,14 @@ names_more names count n lines a longer m found new collected gain = record { co
         (subst (λ (k : DeductionLine). GainsFree names.tally.variables new.tally.variables k.formula) same gain))
     go (Some k) there f =
         absurd (longer (ap (λ (l : List DeductionLine). length l) f ∙ length_why a.before (number_of a.request) (why_of a.request) ∙ sym a.counted))
+
+pub names_more_ok : {E : Type 0} (names : KnownNames) (count n : ℕ) (lines : List DeductionLine) → IsStepAfter names count n lines → (length lines ≡ count → ⊥)
+    → (m : DeductionLine) → line_of lines n ≡ Some m → (r : Result KnownNames E)
+    → IfOk r AreCollected → IfOk r (λ new. GainsFree names.tally.variables new.tally.variables m.formula) → IfOk r (λ new. AreNamesOf lines new)
+names_more_ok names count n lines a longer m found (Ok new) collected gain = names_more names count n lines a longer m found new collected gain
+names_more_ok names count n lines a longer m found (Err e) collected gain = collected
+
+-- no line is there where none is found
+pub none_there : (o : Option DeductionLine) → None ≡ o → IsSome o → ⊥
+none_there None e h = cc
+none_there (Some l) e h = cc
