@@ -92,6 +92,7 @@ fn with_term(alloc: Global, tally: Tally, t: &Tm) -> Result<Tally, AllocError>
 /// The tally of the variables that are free in the formulas of the lines.
 fn tally_of(alloc: Global, lines: &[Line]) -> Result<Tally, AllocError>
     ensures tallied { IfOk result (λ t. AreTallied t.variables t.names t.shared) }
+    ensures seen { IfOk result (λ t. t.seen ≡ t.variables) }
     ensures free { IfOk result (λ t. AreFreeIn (map plain_line lines.now) t.variables) }
 {
     let mut tally = Tally {
