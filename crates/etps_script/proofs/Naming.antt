@@ -1,14 +1,14 @@
 -- The names that an outline knows, from step to step.
 use Rattle.std.proofs.Common.{ℕ, suc, ◌<◌, List, [], ◌∷◌, ◌++◌, Bool, true, false, ◌≡◌, refl, sym, ap, subst, ◌∙◌, length, arith, inl, inr, ◌⊎◌, Some, None, Result, Ok, Err, IfOk, append_assoc, ◌==◌, nat_lt}
-use Rattle.std.specs.Prelude.{Contains, IsSome, if◌then◌else◌}
+use Rattle.std.specs.Prelude.{IsSome, if◌then◌else◌}
 use Rattle.std.specs.declared.option.Option.{Option}
 use Rattle.std.proofs.lemmas.List.{append-nil}
 use Rattle.hol_terms.specs.FreeVariables.{IsFree}
 use Rattle.hol_terms.specs.Terms.{SimpleType, Variable}
 use Rattle.nd_rules.specs.Lines.{DeductionLine, Justification, line_of}
 use Rattle.nd_rules.specs.Outlines.{with_line, with_why}
-use Rattle.etps_session.specs.Commands.{Request, number_of, why_of}
-use Rattle.etps_session.specs.Replays.{put_at, taken}
+use Rattle.etps_session.specs.Commands.{number_of, why_of}
+use Rattle.etps_session.specs.Replays.{put_at}
 use Rattle.etps_session.specs.Tables.{table_line}
 use Rattle.etps_session.proofs.Undone.{found_put, taken_there}
 use Rattle.etps_script.specs.Known.{AreKnown, IsFreeIn}

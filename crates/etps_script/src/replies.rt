@@ -132,7 +132,11 @@ pub fn execute(
 }
 
 /// A reply, and the names that the outline of the session knows.
-fn with_names(alloc: Global, session: &Session, reply: Text) -> Result<(Text, KnownNames), AllocError>
+fn with_names(
+    alloc: Global,
+    session: &Session,
+    reply: Text,
+) -> Result<(Text, KnownNames), AllocError>
     ensures reply { IfOk result (λ r. r.0 ≡ reply) }
     ensures names { IfOk result (λ r. AreNamesOf (replay session.now) r.1) }
 {

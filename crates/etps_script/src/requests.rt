@@ -214,7 +214,12 @@ fn plan(
 }
 
 /// P, of the formula for which the phrase stands.
-fn hypothesis(alloc: Global, context: Context<'_>, number: u64, raw: &Raw) -> Result<Command, Refusal>
+fn hypothesis(
+    alloc: Global,
+    context: Context<'_>,
+    number: u64,
+    raw: &Raw,
+) -> Result<Command, Refusal>
     requires { AreKnown context.outline.now context.known.now }
     ensures asks { IfOk result (λ c. Asks context.entry.outline.now (say_suppose number (plain_raw raw.now)) (plain_command c)) }
     ensures typed { IfOk result (λ c. IsTyped (plain_command c)) }

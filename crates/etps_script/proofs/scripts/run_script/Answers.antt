@@ -7,9 +7,9 @@ loop-rest-preserved c =
     let step = c.in_ok-names-2.ensures in
     record {
       written =
-      replies_more c.loop-rest.session c.append_reply.new.session c.first_line.result.0.now (script_lines c.loop-rest.rest.now)
-      (script_lines c.first_line.result.1.now) (script_lines c.args.bytes.now) c.loop-rest.out c.append_reply.new.out
-      c.loop-rest.invariant.written c.first_line.ensures.cut step.reply;
+          replies_more c.loop-rest.session c.append_reply.new.session c.first_line.result.0.now (script_lines c.loop-rest.rest.now)
+          (script_lines c.first_line.result.1.now) (script_lines c.args.bytes.now) c.loop-rest.out c.append_reply.new.out
+          c.loop-rest.invariant.written c.first_line.ensures.cut step.reply;
       names = step.names;
     }
 
