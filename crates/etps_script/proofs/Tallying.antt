@@ -10,7 +10,6 @@ use Rattle.hol_terms.specs.Places.{place_of}
 use Rattle.hol_terms.proofs.Placing.{place_held, place_none}
 use Rattle.hol_terms.specs.Terms.{SimpleType, Term, free, bound, constant, application, abstraction, Constant, Variable, truth_type}
 use Rattle.nd_rules.specs.Lines.{DeductionLine}
-use Rattle.etps_script.specs.Known.{AreKnown}
 use Rattle.etps_script.specs.Tallies.{AreFreeBefore, AreFreeIn, AreTallied, AreUnshared, GainsFree, IsGained, IsKept, IsMarked}
 
 -- a list of one
@@ -187,16 +186,6 @@ unshared_more shared variables more old new v u taken (inr none) k =
       apart = λ w p. elim (h.only w p) [ inl q ↦ u.apart w q | inr q ↦ subst (λ (x : Variable). Contains shared (x.0, truth_type) → ⊥) (sym q) none ];
       all = λ w p no. elim (g.only w p) [ inl q ↦ h.kept w (u.all w q no) | inr q ↦ subst (Contains new) (sym q) h.gained ];
     }
-
--- the variables whose names aren't shared are the known ones
-pub known_unshared : (lines : List DeductionLine) (variables names shared known : List Variable)
-    → AreFreeIn lines variables → AreTallied variables names shared → AreUnshared shared variables known → AreKnown lines known
-known_unshared lines variables names shared known f t u = record {
-  free = λ m s h. f.free m s (u.there (m, s) h);
-  only = λ m s h r free. t.one_type m (u.apart (m, s) h) r s (f.all m r free) (u.there (m, s) h);
-  all = λ m s free one. u.all (m, s) (f.all m s free)
-      (λ shared_name. let two = t.two_types m shared_name in two.4 (one two.0 (f.free m two.0 two.2) ∙ sym (one two.1 (f.free m two.1 two.3))));
-}
 
 -- a variable is in a list or not
 pub in_or_not : (v : Variable) (xs : List Variable) → Contains xs v ⊎ (Contains xs v → ⊥)

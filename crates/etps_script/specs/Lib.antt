@@ -1,5 +1,6 @@
 pub mod Known
 pub mod Lines
+pub mod Names
 pub mod Phrases
 pub mod Refusals
 pub mod Replies

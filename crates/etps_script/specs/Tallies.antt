@@ -51,3 +51,13 @@ pub record AreUnshared (shared variables known : List Variable) : Type 0 where
   pub there : (v : Variable) → Contains known v → Contains variables v
   pub apart : (v : Variable) → Contains known v → Contains shared (v.0, truth_type) → ⊥
   pub all : (v : Variable) → Contains variables v → (Contains shared (v.0, truth_type) → ⊥) → Contains known v
+
+-- the list begins with the first one
+abbrev pub IsBeginning : List Variable → List Variable → Type 0
+IsBeginning first whole = (more : List Variable) × (whole ≡ first ++ more)
+
+-- the known variables are those whose name is among the variables at one type only
+pub record AreAtOneType (variables known : List Variable) : Type 0 where
+  pub there : (name : List ℕ) (s : SimpleType) → Contains known (name, s) → Contains variables (name, s)
+  pub only : (name : List ℕ) (s r : SimpleType) → Contains known (name, s) → Contains variables (name, r) → r ≡ s
+  pub all : (name : List ℕ) (s : SimpleType) → Contains variables (name, s) → ((r : SimpleType) → Contains variables (name, r) → r ≡ s) → Contains known (name, s)

@@ -3,8 +3,8 @@
 ghost use Rattle.std.specs.Prelude.{◌≡◌, ◌++◌, ◌∷◌, [], Contains, IfOk, OnOk, map};
 ghost use Rattle.hol_terms.specs.Terms.{plain_term, plain_type, truth_type};
 ghost use Rattle.nd_rules.specs.Lines.{plain_line};
-ghost use Rattle.etps_script.specs.Known.{AreKnown};
-ghost use Rattle.etps_script.specs.Tallies.{AreFreeIn, AreTallied, AreUnshared, GainsFree, IsGained, IsKept, IsMarked};
+ghost use Rattle.etps_script.specs.Names.{AreCollected, AreNamesOf, IsStepAfter};
+ghost use Rattle.etps_script.specs.Tallies.{AreAtOneType, AreFreeIn, AreTallied, AreUnshared, GainsFree, IsBeginning, IsGained, IsKept, IsMarked};
 
 use hol_terms::lists::Vars;
 use hol_terms::names::Name;
@@ -58,6 +58,7 @@ fn with_variable(alloc: Global, tally: Tally, name: &Name, ty: &Ty) -> Result<Ta
     ensures tallied { IfOk result (λ t. AreTallied t.variables t.names t.shared) }
     ensures seen { IfOk result (λ t. t.seen ≡ t.variables) }
     ensures gained { IfOk result (λ t. IsGained tally.variables t.variables (name.now, plain_type ty.now)) }
+    ensures longer { IfOk result (λ t. IsBeginning tally.variables t.variables) }
 {
     let mut tally = tally;
     if tally.seen.insert(name, ty)? {
@@ -74,6 +75,7 @@ fn with_term(alloc: Global, tally: Tally, t: &Tm) -> Result<Tally, AllocError>
     ensures tallied { IfOk result (λ t. AreTallied t.variables t.names t.shared) }
     ensures seen { IfOk result (λ t. t.seen ≡ t.variables) }
     ensures gained { IfOk result (λ new. GainsFree tally.variables new.variables (plain_term t.now)) }
+    ensures longer { IfOk result (λ new. IsBeginning tally.variables new.variables) }
 {
     match t {
         Tm::Free(name, ty) => with_variable(alloc, tally, name, ty),
@@ -90,6 +92,7 @@ fn with_term(alloc: Global, tally: Tally, t: &Tm) -> Result<Tally, AllocError>
 /// The tally of the variables that are free in the formulas of the lines.
 fn tally_of(alloc: Global, lines: &[Line]) -> Result<Tally, AllocError>
     ensures tallied { IfOk result (λ t. AreTallied t.variables t.names t.shared) }
+    ensures seen { IfOk result (λ t. t.seen ≡ t.variables) }
     ensures free { IfOk result (λ t. AreFreeIn (map plain_line lines.now) t.variables) }
 {
     let mut tally = Tally {
@@ -134,10 +137,63 @@ fn unshared(alloc: Global, variables: &Vars, shared: &VariableSet) -> Result<Var
     Ok(known)
 }
 
-/// The variables whose name is free in the formulas of the outline at one type only.
-pub(crate) fn known_names(alloc: Global, outline: &Outline) -> Result<Vars, AllocError>
-    ensures { IfOk result (λ known. AreKnown outline.now known) }
+/// The variables that are free in the formulas of an outline, tallied, and those whose name is free at one type only.
+#[derive(Drop)]
+pub(crate) struct KnownNames {
+    tally: Tally,
+    pub(crate) known: Vars,
+}
+
+/// The variables of the tally whose name is there at one type only.
+fn at_one_type(alloc: Global, tally: &Tally) -> Result<Vars, AllocError>
+    requires { AreTallied tally.now.variables tally.now.names tally.now.shared }
+    ensures { IfOk result (λ known. AreAtOneType tally.now.variables known) }
+{
+    unshared(alloc, &tally.variables, &tally.shared)
+}
+
+/// The names that the outline knows.
+pub(crate) fn known_names(alloc: Global, outline: &Outline) -> Result<KnownNames, AllocError>
+    ensures { IfOk result (λ names. AreNamesOf outline.now names) }
 {
     let tally = tally_of(alloc, outline.as_slice())?;
-    unshared(alloc, &tally.variables, &tally.shared)
+    let known = at_one_type(alloc, &tally)?;
+    Ok(KnownNames { tally, known })
+}
+
+/// The names with the free variables of a formula. The known ones are collected anew only where a variable is new.
+fn with_formula(alloc: Global, names: KnownNames, formula: &Tm) -> Result<KnownNames, AllocError>
+    requires { AreCollected names }
+    ensures collected { IfOk result (λ new. AreCollected new) }
+    ensures gained { IfOk result (λ new. GainsFree names.tally.variables new.tally.variables (plain_term formula.now)) }
+{
+    let KnownNames { tally, known } = names;
+    let count = tally.variables.len();
+    let tally = with_term(alloc, tally, formula)?;
+    if tally.variables.len() == count {
+        return Ok(KnownNames { tally, known });
+    }
+    let known = at_one_type(alloc, &tally)?;
+    Ok(KnownNames { tally, known })
+}
+
+/// The names that the outline knows behind a step, from those that it knew before it, when it had so many lines: where it has one line
+/// more, this has the number, and its variables come in; else a planned line was justified, and the formulas are the same.
+pub(crate) fn with_step(
+    alloc: Global,
+    outline: &Outline,
+    names: KnownNames,
+    count: u64,
+    number: u64,
+) -> Result<KnownNames, AllocError>
+    requires { IsStepAfter names count number outline.now }
+    ensures { IfOk result (λ new. AreNamesOf outline.now new) }
+{
+    if outline.len() == count {
+        return Ok(names);
+    }
+    match outline.find(number) {
+        None => unreachable!(),
+        Some(line) => with_formula(alloc, names, &line.formula),
+    }
 }

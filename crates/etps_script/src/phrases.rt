@@ -6,9 +6,9 @@ ghost use Rattle.hol_terms.specs.Terms.{SimpleType, Variable, plain_term, plain_
 ghost use Rattle.hol_terms.specs.Typing.{IsFormula, Typed};
 ghost use Rattle.tps_reader.specs.Raws.{RawFormula, plain_raw};
 ghost use Rattle.type_infer.specs.Faults.{IsInferFault, IsOnlyAnnotation};
+ghost use Rattle.etps_script.specs.Known.{AreKnown};
 ghost use Rattle.etps_script.specs.Phrases.{IsMeaningless, IsUntyped, Means};
 
-use crate::known::known_names;
 use crate::refusals::Refusal;
 use hol_terms::lists::Vars;
 use hol_terms::terms::Tm;
@@ -18,6 +18,13 @@ use std::alloc::Global;
 use tps_reader::raws::Raw;
 use type_infer::inference::{InferFault, infer};
 use type_infer::laws::annotations;
+
+/// The outline beside which a phrase stands, and the variables that it knows.
+#[derive(Clone, Copy)]
+pub(crate) struct Context<'a> {
+    pub(crate) outline: &'a Outline,
+    pub(crate) known: &'a Vars,
+}
 
 /// The refusal of a phrase without a term.
 #[tactic(auto, using(crate::proofs::Meanings::two_terms))]
@@ -54,27 +61,27 @@ pub(crate) fn formula_beside(alloc: Global, raw: &Raw, known: &Vars) -> Result<T
 }
 
 /// The only formula for which the phrase stands, where the names of the outline are known.
-pub(crate) fn formula(alloc: Global, outline: &Outline, raw: &Raw) -> Result<Tm, Refusal>
-    ensures means { IfOk result (λ t. Means outline.now (plain_raw raw.now) (Some truth_type) (plain_term t)) }
+pub(crate) fn formula(alloc: Global, context: Context<'_>, raw: &Raw) -> Result<Tm, Refusal>
+    requires { AreKnown context.outline.now context.known.now }
+    ensures means { IfOk result (λ t. Means context.entry.outline.now (plain_raw raw.now) (Some truth_type) (plain_term t)) }
     ensures formula { IfOk result (λ t. IsFormula (plain_term t)) }
-    ensures fault { IfErr result (λ e. IsMeaningless outline.now (plain_raw raw.now) (Some truth_type) e) }
+    ensures fault { IfErr result (λ e. IsMeaningless context.entry.outline.now (plain_raw raw.now) (Some truth_type) e) }
 {
-    let known = known_names(alloc, outline)?;
-    formula_beside(alloc, raw, &known)
+    formula_beside(alloc, raw, context.known)
 }
 
 /// The only term for which the phrase stands, with the wanted type, where one is given, and where the names of the outline are known.
 pub(crate) fn term(
     alloc: Global,
-    outline: &Outline,
+    context: Context<'_>,
     raw: &Raw,
     wanted: Option<&Ty>,
 ) -> Result<Tm, Refusal>
-    ensures means { IfOk result (λ t. Means outline.now (plain_raw raw.now) (option_map (λ s. plain_type s.now) wanted.entry) (plain_term t)) }
+    requires { AreKnown context.outline.now context.known.now }
+    ensures means { IfOk result (λ t. Means context.entry.outline.now (plain_raw raw.now) (option_map (λ s. plain_type s.now) wanted.entry) (plain_term t)) }
     ensures typed { IfOk result (λ t. (s : SimpleType) × Typed [] (plain_term t) s) }
-    ensures fault { IfErr result (λ e. IsMeaningless outline.now (plain_raw raw.now) (option_map (λ s. plain_type s.now) wanted.entry) e) }
+    ensures fault { IfErr result (λ e. IsMeaningless context.entry.outline.now (plain_raw raw.now) (option_map (λ s. plain_type s.now) wanted.entry) e) }
 {
     annotations();
-    let known = known_names(alloc, outline)?;
-    typed(alloc, raw, wanted, &known)
+    typed(alloc, raw, wanted, context.known)
 }

@@ -5,9 +5,11 @@ ghost use Rattle.tps_reader.specs.Raws.{plain_raw};
 ghost use Rattle.nd_rules.specs.Lines.{line_of};
 ghost use Rattle.etps_session.specs.Replays.{replay};
 ghost use Rattle.script_text.specs.Commands.{plain_script};
+ghost use Rattle.etps_script.specs.Names.{AreNamesOf};
 ghost use Rattle.etps_script.specs.Replies.{IsBegun, IsNoStep, IsNotBegun, IsNotTakenBack, IsStep, IsTakenBack, Replied, Shows, done_reply};
 ghost use Rattle.etps_script.specs.Requests.{line_number as line_number_of};
 
+use crate::known::{KnownNames, known_names, with_step};
 use crate::phrases::formula_beside;
 use crate::refusals::{Refusal, numbered, refused, said, undo_refusal};
 use crate::steps::{is_started, take};
@@ -71,15 +73,44 @@ fn done(alloc: Global, session: &Session) -> Result<Text, AllocError>
     }
 }
 
-/// A step: its line, or the first refusal.
-fn step(alloc: Global, session: &mut Session, script: &ScriptCommand) -> Result<Text, AllocError>
+/// A step: its line, or the first refusal; and the names known then.
+fn step(
+    alloc: Global,
+    session: &mut Session,
+    names: KnownNames,
+    script: &ScriptCommand,
+) -> Result<(Text, KnownNames), AllocError>
+    requires step { IsSome (line_number_of (plain_script script.now)) }
+    requires names { AreNamesOf (replay session.old) names }
+    ensures reply { IfOk result (λ r. IsStep session.old (plain_script script.now) session.new r.0 ⊎ IsNoStep session.old (plain_script script.now) session.new r.0) }
+    ensures names { IfOk result (λ r. AreNamesOf (replay session.new) r.1) }
+{
+    let count = session.outline().len();
+    match take(alloc, session, &names.known, script) {
+        Ok(number) => {
+            let names = with_step(alloc, session.outline(), names, count, number)?;
+            let reply = shown(alloc, session, number)?;
+            Ok((reply, names))
+        }
+        Err(refusal) => {
+            let reply = refused(alloc, &refusal)?;
+            Ok((reply, names))
+        }
+    }
+}
+
+/// A step, where the names are yet to be collected.
+fn lone_step(
+    alloc: Global,
+    session: &mut Session,
+    script: &ScriptCommand,
+) -> Result<Text, AllocError>
     requires { IsSome (line_number_of (plain_script script.now)) }
     ensures { IfOk result (λ out. IsStep session.old (plain_script script.now) session.new out ⊎ IsNoStep session.old (plain_script script.now) session.new out) }
 {
-    match take(alloc, session, script) {
-        Ok(number) => shown(alloc, session, number),
-        Err(refusal) => refused(alloc, &refusal),
-    }
+    let names = known_names(alloc, session.outline())?;
+    let (reply, _) = step(alloc, session, names, script)?;
+    Ok(reply)
 }
 
 /// Does what the command asks for, and answers the reply, without an end of line. An error comes only where memory is wanting; then the
@@ -96,6 +127,48 @@ pub fn execute(
         ScriptCommand::Prove { number, goal } => prove(alloc, session, *number, goal),
         ScriptCommand::Undo => undo(alloc, session),
         ScriptCommand::Done => done(alloc, session),
-        _ => step(alloc, session, script),
+        _ => lone_step(alloc, session, script),
+    }
+}
+
+/// A reply, and the names that the outline of the session knows.
+fn with_names(
+    alloc: Global,
+    session: &Session,
+    reply: Text,
+) -> Result<(Text, KnownNames), AllocError>
+    ensures reply { IfOk result (λ r. r.0 ≡ reply) }
+    ensures names { IfOk result (λ r. AreNamesOf (replay session.now) r.1) }
+{
+    let names = known_names(alloc, session.outline())?;
+    Ok((reply, names))
+}
+
+/// Does what the command asks for, as `execute`, where these names are known; and answers those that are known then.
+pub(crate) fn execute_with(
+    alloc: Global,
+    session: &mut Session,
+    names: KnownNames,
+    script: &ScriptCommand,
+) -> Result<(Text, KnownNames), AllocError>
+    requires { AreNamesOf (replay session.old) names }
+    ensures replied { IfOk result (λ r. Replied session.old (plain_script script.now) session.new r.0) }
+    ensures names { IfOk result (λ r. AreNamesOf (replay session.new) r.1) }
+{
+    match script {
+        ScriptCommand::Blank => Ok((Text::new(alloc), names)),
+        ScriptCommand::Prove { number, goal } => {
+            let reply = prove(alloc, session, *number, goal)?;
+            with_names(alloc, session, reply)
+        }
+        ScriptCommand::Undo => {
+            let reply = undo(alloc, session)?;
+            with_names(alloc, session, reply)
+        }
+        ScriptCommand::Done => {
+            let reply = done(alloc, session)?;
+            Ok((reply, names))
+        }
+        _ => step(alloc, session, names, script),
     }
 }

@@ -8,9 +8,10 @@ ghost use Rattle.nd_rules.specs.Lines.{plain_why};
 ghost use Rattle.etps_session.specs.Answers.{is_planned as is_planned_why};
 ghost use Rattle.etps_session.specs.Commands.{IsTyped, deduce, plain_command};
 ghost use Rattle.script_text.specs.Commands.{plain_script, say_choose, say_convert, say_follow, say_generalize, say_instantiate, say_plan, say_suppose, say_witness};
+ghost use Rattle.etps_script.specs.Known.{AreKnown};
 ghost use Rattle.etps_script.specs.Requests.{Asks, AsksNothing, IsNoSource, IsUniversalBefore, is_plan as is_plan_request, is_taken as is_taken_by, line_number as line_number_of};
 
-use crate::phrases::{formula, term};
+use crate::phrases::{Context, formula, term};
 use crate::refusals::Refusal;
 use etps_session::commands::Command;
 use hol_terms::lists::{Hyps, Numbers};
@@ -110,20 +111,21 @@ fn universal_type(outline: &Outline, number: u64, src: u64) -> Result<&Ty, Refus
 /// UI, with the term at the type of the quantifier of the source.
 fn instance(
     alloc: Global,
-    outline: &Outline,
+    context: Context<'_>,
     number: u64,
     src: u64,
     raw: &Raw,
 ) -> Result<Command, Refusal>
-    ensures asks { IfOk result (λ c. Asks outline.now (say_instantiate number src (plain_raw raw.now)) (plain_command c)) }
+    requires { AreKnown context.outline.now context.known.now }
+    ensures asks { IfOk result (λ c. Asks context.entry.outline.now (say_instantiate number src (plain_raw raw.now)) (plain_command c)) }
     ensures typed { IfOk result (λ c. IsTyped (plain_command c)) }
-    ensures fault { IfErr result (λ e. AsksNothing outline.now (say_instantiate number src (plain_raw raw.now)) e) }
+    ensures fault { IfErr result (λ e. AsksNothing context.entry.outline.now (say_instantiate number src (plain_raw raw.now)) e) }
 {
-    let ty = match universal_type(outline, number, src) {
+    let ty = match universal_type(context.outline, number, src) {
         Ok(ty) => ty,
         Err(refusal) => return Err(refusal),
     };
-    match term(alloc, outline, raw, Some(ty)) {
+    match term(alloc, context, raw, Some(ty)) {
         Ok(term) => Ok(Command::Ui { number, src, term }),
         Err(refusal) => Err(refusal),
     }
@@ -132,16 +134,17 @@ fn instance(
 /// UGEN, over the variable for which the phrase stands.
 fn generalization(
     alloc: Global,
-    outline: &Outline,
+    context: Context<'_>,
     number: u64,
     src: u64,
     raw: &Raw,
 ) -> Result<Command, Refusal>
-    ensures asks { IfOk result (λ c. Asks outline.now (say_generalize number src (plain_raw raw.now)) (plain_command c)) }
+    requires { AreKnown context.outline.now context.known.now }
+    ensures asks { IfOk result (λ c. Asks context.entry.outline.now (say_generalize number src (plain_raw raw.now)) (plain_command c)) }
     ensures typed { IfOk result (λ c. IsTyped (plain_command c)) }
-    ensures fault { IfErr result (λ e. AsksNothing outline.now (say_generalize number src (plain_raw raw.now)) e) }
+    ensures fault { IfErr result (λ e. AsksNothing context.entry.outline.now (say_generalize number src (plain_raw raw.now)) e) }
 {
-    match term(alloc, outline, raw, None) {
+    match term(alloc, context, raw, None) {
         Ok(Tm::Free(var, ty)) => Ok(Command::Ugen {
             number,
             src,
@@ -159,24 +162,25 @@ fn generalization(
 /// EGEN, with the term at the type of the quantifier of the formula.
 fn witness(
     alloc: Global,
-    outline: &Outline,
+    context: Context<'_>,
     number: u64,
     src: u64,
     raw: &Raw,
     raw_formula: &Raw,
 ) -> Result<Command, Refusal>
-    ensures asks { IfOk result (λ c. Asks outline.now (say_witness number src (plain_raw raw.now) (plain_raw raw_formula.now)) (plain_command c)) }
+    requires { AreKnown context.outline.now context.known.now }
+    ensures asks { IfOk result (λ c. Asks context.entry.outline.now (say_witness number src (plain_raw raw.now) (plain_raw raw_formula.now)) (plain_command c)) }
     ensures typed { IfOk result (λ c. IsTyped (plain_command c)) }
-    ensures fault { IfErr result (λ e. AsksNothing outline.now (say_witness number src (plain_raw raw.now) (plain_raw raw_formula.now)) e) }
+    ensures fault { IfErr result (λ e. AsksNothing context.entry.outline.now (say_witness number src (plain_raw raw.now) (plain_raw raw_formula.now)) e) }
 {
-    let formula = match formula(alloc, outline, raw_formula) {
+    let formula = match formula(alloc, context, raw_formula) {
         Ok(formula) => formula,
         Err(refusal) => return Err(refusal),
     };
     let Some(quantified) = existential_body(&formula) else {
         return Err(Refusal::Rule(RuleFault::Shape));
     };
-    match term(alloc, outline, raw, Some(quantified.ty)) {
+    match term(alloc, context, raw, Some(quantified.ty)) {
         Ok(term) => Ok(Command::Egen {
             number,
             src,
@@ -190,16 +194,17 @@ fn witness(
 /// PLAN, of the formula for which the phrase stands.
 fn plan(
     alloc: Global,
-    outline: &Outline,
+    context: Context<'_>,
     number: u64,
     hyps: &Hyps,
     raw: &Raw,
 ) -> Result<Command, Refusal>
-    ensures asks { IfOk result (λ c. Asks outline.now (say_plan number hyps.now (plain_raw raw.now)) (plain_command c)) }
+    requires { AreKnown context.outline.now context.known.now }
+    ensures asks { IfOk result (λ c. Asks context.entry.outline.now (say_plan number hyps.now (plain_raw raw.now)) (plain_command c)) }
     ensures typed { IfOk result (λ c. IsTyped (plain_command c)) }
-    ensures fault { IfErr result (λ e. AsksNothing outline.now (say_plan number hyps.now (plain_raw raw.now)) e) }
+    ensures fault { IfErr result (λ e. AsksNothing context.entry.outline.now (say_plan number hyps.now (plain_raw raw.now)) e) }
 {
-    let formula = formula(alloc, outline, raw)?;
+    let formula = formula(alloc, context, raw)?;
     let hyps = as_hypotheses(alloc, hyps.as_slice())?;
     Ok(Command::Plan {
         number,
@@ -209,28 +214,34 @@ fn plan(
 }
 
 /// P, of the formula for which the phrase stands.
-fn hypothesis(alloc: Global, outline: &Outline, number: u64, raw: &Raw) -> Result<Command, Refusal>
-    ensures asks { IfOk result (λ c. Asks outline.now (say_suppose number (plain_raw raw.now)) (plain_command c)) }
+fn hypothesis(
+    alloc: Global,
+    context: Context<'_>,
+    number: u64,
+    raw: &Raw,
+) -> Result<Command, Refusal>
+    requires { AreKnown context.outline.now context.known.now }
+    ensures asks { IfOk result (λ c. Asks context.entry.outline.now (say_suppose number (plain_raw raw.now)) (plain_command c)) }
     ensures typed { IfOk result (λ c. IsTyped (plain_command c)) }
-    ensures fault { IfErr result (λ e. AsksNothing outline.now (say_suppose number (plain_raw raw.now)) e) }
+    ensures fault { IfErr result (λ e. AsksNothing context.entry.outline.now (say_suppose number (plain_raw raw.now)) e) }
 {
-    let formula = formula(alloc, outline, raw)?;
+    let formula = formula(alloc, context, raw)?;
     Ok(Command::P { number, formula })
 }
 
 /// RULEC, with an equal name.
 fn choice(
     alloc: Global,
-    outline: &Outline,
+    context: Context<'_>,
     number: u64,
     some_line: u64,
     hyp: u64,
     src: u64,
     var: &Name,
 ) -> Result<Command, Refusal>
-    ensures asks { IfOk result (λ c. Asks outline.now (say_choose number some_line hyp src var.now) (plain_command c)) }
+    ensures asks { IfOk result (λ c. Asks context.entry.outline.now (say_choose number some_line hyp src var.now) (plain_command c)) }
     ensures typed { IfOk result (λ c. IsTyped (plain_command c)) }
-    ensures fault { IfErr result (λ e. AsksNothing outline.now (say_choose number some_line hyp src var.now) e) }
+    ensures fault { IfErr result (λ e. AsksNothing context.entry.outline.now (say_choose number some_line hyp src var.now) e) }
 {
     let var = var.copy(alloc)?;
     Ok(Command::Rulec {
@@ -245,16 +256,17 @@ fn choice(
 /// LAMBDA, of the formula for which the phrase stands.
 fn conversion(
     alloc: Global,
-    outline: &Outline,
+    context: Context<'_>,
     number: u64,
     src: u64,
     raw: &Raw,
 ) -> Result<Command, Refusal>
-    ensures asks { IfOk result (λ c. Asks outline.now (say_convert number src (plain_raw raw.now)) (plain_command c)) }
+    requires { AreKnown context.outline.now context.known.now }
+    ensures asks { IfOk result (λ c. Asks context.entry.outline.now (say_convert number src (plain_raw raw.now)) (plain_command c)) }
     ensures typed { IfOk result (λ c. IsTyped (plain_command c)) }
-    ensures fault { IfErr result (λ e. AsksNothing outline.now (say_convert number src (plain_raw raw.now)) e) }
+    ensures fault { IfErr result (λ e. AsksNothing context.entry.outline.now (say_convert number src (plain_raw raw.now)) e) }
 {
-    let formula = formula(alloc, outline, raw)?;
+    let formula = formula(alloc, context, raw)?;
     Ok(Command::Lambda {
         number,
         src,
@@ -265,16 +277,17 @@ fn conversion(
 /// RULEP, of the formula for which the phrase stands.
 fn consequence(
     alloc: Global,
-    outline: &Outline,
+    context: Context<'_>,
     number: u64,
     src: &Numbers,
     raw: &Raw,
 ) -> Result<Command, Refusal>
-    ensures asks { IfOk result (λ c. Asks outline.now (say_follow number src.now (plain_raw raw.now)) (plain_command c)) }
+    requires { AreKnown context.outline.now context.known.now }
+    ensures asks { IfOk result (λ c. Asks context.entry.outline.now (say_follow number src.now (plain_raw raw.now)) (plain_command c)) }
     ensures typed { IfOk result (λ c. IsTyped (plain_command c)) }
-    ensures fault { IfErr result (λ e. AsksNothing outline.now (say_follow number src.now (plain_raw raw.now)) e) }
+    ensures fault { IfErr result (λ e. AsksNothing context.entry.outline.now (say_follow number src.now (plain_raw raw.now)) e) }
 {
-    let formula = formula(alloc, outline, raw)?;
+    let formula = formula(alloc, context, raw)?;
     let src = with_more(Numbers::new(alloc), src.as_slice())?;
     Ok(Command::Rulep {
         number,
@@ -293,13 +306,14 @@ fn deduction(number: u64, src: u64, hyp: u64) -> Command
 /// What the step asks of the session with this outline.
 pub(crate) fn request(
     alloc: Global,
-    outline: &Outline,
+    context: Context<'_>,
     script: &ScriptCommand,
 ) -> Result<Command, Refusal>
-    requires { IsSome (line_number_of (plain_script script.now)) }
-    ensures asks { IfOk result (λ c. Asks outline.now (plain_script script.now) (plain_command c)) }
+    requires step { IsSome (line_number_of (plain_script script.now)) }
+    requires known { AreKnown context.outline.now context.known.now }
+    ensures asks { IfOk result (λ c. Asks context.entry.outline.now (plain_script script.now) (plain_command c)) }
     ensures typed { IfOk result (λ c. IsTyped (plain_command c)) }
-    ensures fault { IfErr result (λ e. AsksNothing outline.now (plain_script script.now) e) }
+    ensures fault { IfErr result (λ e. AsksNothing context.entry.outline.now (plain_script script.now) e) }
 {
     match script {
         ScriptCommand::Blank => unreachable!(),
@@ -308,36 +322,36 @@ pub(crate) fn request(
             number,
             hyps,
             formula,
-        } => plan(alloc, outline, *number, hyps, formula),
-        ScriptCommand::P { number, formula } => hypothesis(alloc, outline, *number, formula),
+        } => plan(alloc, context, *number, hyps, formula),
+        ScriptCommand::P { number, formula } => hypothesis(alloc, context, *number, formula),
         ScriptCommand::Deduct { number, src, hyp } => Ok(deduction(*number, *src, *hyp)),
-        ScriptCommand::Ui { number, src, term } => instance(alloc, outline, *number, *src, term),
+        ScriptCommand::Ui { number, src, term } => instance(alloc, context, *number, *src, term),
         ScriptCommand::Ugen { number, src, var } => {
-            generalization(alloc, outline, *number, *src, var)
+            generalization(alloc, context, *number, *src, var)
         }
         ScriptCommand::Egen {
             number,
             src,
             term,
             formula,
-        } => witness(alloc, outline, *number, *src, term, formula),
+        } => witness(alloc, context, *number, *src, term, formula),
         ScriptCommand::Rulec {
             number,
             some_line,
             hyp,
             src,
             var,
-        } => choice(alloc, outline, *number, *some_line, *hyp, *src, var),
+        } => choice(alloc, context, *number, *some_line, *hyp, *src, var),
         ScriptCommand::Lambda {
             number,
             src,
             formula,
-        } => conversion(alloc, outline, *number, *src, formula),
+        } => conversion(alloc, context, *number, *src, formula),
         ScriptCommand::Rulep {
             number,
             src,
             formula,
-        } => consequence(alloc, outline, *number, src, formula),
+        } => consequence(alloc, context, *number, src, formula),
         ScriptCommand::Undo => unreachable!(),
         ScriptCommand::Done => unreachable!(),
     }

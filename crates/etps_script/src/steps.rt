@@ -3,16 +3,19 @@
 ghost use Rattle.std.specs.Prelude.{◌≡◌, IfErr, IfOk, IsSome, OnErr, OnOk, is_some};
 ghost use Rattle.etps_session.specs.Answers.{IsAccepted, IsFirstAnswer};
 ghost use Rattle.etps_session.specs.Commands.{IsTyped, Request, number_of, plain_command};
-ghost use Rattle.etps_session.specs.Replays.{SessionState, with_request};
+ghost use Rattle.etps_session.specs.Replays.{SessionState, replay, with_request};
 ghost use Rattle.script_text.specs.Commands.{plain_script};
+ghost use Rattle.etps_script.specs.Known.{AreKnown};
 ghost use Rattle.etps_script.specs.Replies.{IsRefused, IsTaken, IsUnaccepted};
 ghost use Rattle.etps_script.specs.Requests.{line_number as line_number_of};
 
+use crate::phrases::Context;
 use crate::refusals::Refusal;
 use crate::requests::{is_taken, request};
 use etps_session::commands::Command;
 use etps_session::faults::SessionFault;
 use etps_session::sessions::Session;
+use hol_terms::lists::Vars;
 use script_text::commands::ScriptCommand;
 use std::alloc::Global;
 
@@ -51,13 +54,15 @@ fn submit(session: &mut Session, command: Command) -> Result<u64, Refusal>
     }
 }
 
-/// Takes the step, and answers the number of its line. A refusal changes nothing.
+/// Takes the step, where these names are known, and answers the number of its line. A refusal changes nothing.
 pub(crate) fn take(
     alloc: Global,
     session: &mut Session,
+    known: &Vars,
     script: &ScriptCommand,
 ) -> Result<u64, Refusal>
-    requires { IsSome (line_number_of (plain_script script.now)) }
+    requires step { IsSome (line_number_of (plain_script script.now)) }
+    requires known { AreKnown (replay session.old) known.now }
     ensures taken { IfOk result (λ n. IsTaken session.old (plain_script script.now) session.new n) }
     ensures refused { IfErr result (λ e. IsRefused session.old (plain_script script.now) e) }
     ensures kept { OnErr result (session.new ≡ session.old) }
@@ -68,7 +73,11 @@ pub(crate) fn take(
     if is_taken(session.outline(), script) {
         return Err(Refusal::NumberTaken);
     }
-    match request(alloc, session.outline(), script) {
+    let context = Context {
+        outline: session.outline(),
+        known,
+    };
+    match request(alloc, context, script) {
         Ok(command) => submit(session, command),
         Err(refusal) => Err(refusal),
     }

@@ -1,5 +1,6 @@
 use Rattle.std.proofs.lemmas.Result.{IfOk-weaker}
 use Rattle.hol_terms.specs.Terms.{plain_type}
+use Rattle.etps_script.proofs.Naming.{begins_twice}
 use Rattle.etps_script.proofs.Tallying.{gains_body, gains_both, gains_variable}
 use Rattle.etps_script.proofs.known.+with_term.Goals as goal
 
@@ -17,3 +18,8 @@ pub returns-in-Lam-clause-gained : goal.returns-in-Lam-clause-gained
 returns-in-Lam-clause-gained t c =
     rw c.in-Lam.is (rw (← c.deref-in-Lam.ensures) (IfOk-weaker c.with_term-in-Lam.result _ _
     (λ new h. gains_body c.args.tally.variables new.variables _ _ h) c.with_term-in-Lam.ensures.gained))
+
+pub returns-in_ok-tally-in-App-clause-longer : goal.returns-in_ok-tally-in-App-clause-longer
+returns-in_ok-tally-in-App-clause-longer t c =
+    IfOk-weaker c.with_term-in-App.result _ _
+    (λ new h. begins_twice c.args.tally.variables c.in_ok-tally-in-App.tally.variables new.variables c.in_ok-tally-in-App.ensures.longer h) c.with_term-in-App.ensures.longer
