@@ -7,8 +7,6 @@ pub mod laws;
 pub mod pieces;
 pub mod sexps;
 pub mod terms;
-#[cfg(test)]
-mod tests;
 pub mod types;
 pub mod typings;
 pub mod words;

@@ -62,6 +62,3 @@ pub fn order(alloc: Global, fitted: &Fitted) -> Result<Order, OrderFault>
         Sorting::Cycle(cycle) => Err(OrderFault::Cycle(shortened(alloc, &graph, &cycle)?)),
     }
 }
-
-#[cfg(test)]
-mod tests;

@@ -9,5 +9,3 @@ pub mod replies;
 mod requests;
 pub mod scripts;
 mod steps;
-#[cfg(test)]
-mod tests;

@@ -185,6 +185,3 @@ impl Session {
         }
     }
 }
-
-#[cfg(test)]
-mod tests;

@@ -99,6 +99,3 @@ pub fn check(alloc: Global, text: ProofText) -> Result<Accepted, CheckFault>
         Err(fault) => Err(fault),
     }
 }
-
-#[cfg(test)]
-mod tests;

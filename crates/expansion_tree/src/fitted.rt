@@ -267,6 +267,3 @@ impl Fitted {
         self.weight
     }
 }
-
-#[cfg(test)]
-mod tests;

@@ -6,5 +6,3 @@ pub mod laws;
 pub mod long;
 pub mod long_forms;
 pub mod normal;
-#[cfg(test)]
-mod tests;

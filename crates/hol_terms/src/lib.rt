@@ -8,8 +8,6 @@ pub mod lists;
 pub mod names;
 pub mod scopes;
 pub mod terms;
-#[cfg(test)]
-mod tests;
 pub mod types;
 pub mod typing;
 pub mod variable_sets;

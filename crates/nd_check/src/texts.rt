@@ -123,6 +123,3 @@ pub fn read_derivation(alloc: Global, bytes: &[u8]) -> Result<Outline, TextFault
         Err(fault) => Err(fault),
     }
 }
-
-#[cfg(test)]
-mod tests;

@@ -10,7 +10,5 @@ pub mod naming;
 pub mod outlines;
 pub mod resting;
 pub mod shapes;
-#[cfg(test)]
-mod tests;
 pub mod variables;
 pub mod words;

@@ -7,5 +7,3 @@ pub mod formulas;
 pub mod hypotheses;
 pub mod laws;
 pub mod steps;
-#[cfg(test)]
-mod tests;

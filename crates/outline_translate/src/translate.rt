@@ -149,6 +149,3 @@ pub fn translate(alloc: Global, accepted: &Accepted) -> Result<Outline, AllocErr
     deduction.convert(alloc, &none, line, formula)?;
     Ok(deduction.into_outline())
 }
-
-#[cfg(test)]
-mod tests;

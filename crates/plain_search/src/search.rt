@@ -114,6 +114,3 @@ pub fn search(
     let found = lightest(alloc, &task, weight)?;
     Ok(found)
 }
-
-#[cfg(test)]
-mod tests;

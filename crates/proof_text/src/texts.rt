@@ -157,6 +157,3 @@ pub fn read_proof(alloc: Global, bytes: &[u8]) -> Result<ProofText, TextFault>
         Err(fault) => Err(fault),
     }
 }
-
-#[cfg(test)]
-mod tests;

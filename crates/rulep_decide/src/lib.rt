@@ -9,7 +9,5 @@ mod propagation;
 mod rules;
 mod search;
 mod shapes;
-#[cfg(test)]
-mod tests;
 mod trails;
 pub mod verdicts;

@@ -8,7 +8,5 @@ mod numerals;
 pub mod readers;
 mod slices;
 mod tails;
-#[cfg(test)]
-mod tests;
 mod variables;
 mod words;

@@ -6,7 +6,5 @@ pub mod laws;
 pub mod long_terms;
 pub mod signatures;
 mod spines;
-#[cfg(test)]
-mod tests;
 mod type_lists;
 mod typed_heads;

@@ -169,6 +169,3 @@ pub fn chain(alloc: Global, n: u64) -> Result<ProofText, AllocError>
         mating,
     })
 }
-
-#[cfg(test)]
-mod tests;

@@ -9,6 +9,4 @@ mod names;
 mod outputs;
 mod shapes;
 mod terms;
-#[cfg(test)]
-mod tests;
 mod types;

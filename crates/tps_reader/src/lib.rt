@@ -10,7 +10,5 @@ pub mod phrases;
 pub mod raws;
 pub mod readers;
 mod roles;
-#[cfg(test)]
-mod tests;
 pub mod tokens;
 mod types;

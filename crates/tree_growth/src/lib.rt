@@ -7,5 +7,3 @@ pub mod extensions;
 pub mod growths;
 pub mod kinds;
 pub mod names;
-#[cfg(test)]
-mod tests;

@@ -12,5 +12,3 @@ mod merging;
 mod ordering;
 pub mod scopes;
 mod solving;
-#[cfg(test)]
-mod tests;

@@ -1,5 +1,0 @@
-use Rattle.expansion_tree.specs.Matrices.{IsNumberedTo}
-use Rattle.vertical_paths.proofs.walk.tests.down_right.Given as goal
-
-abbrev pub invariant-loop-k : goal.invariant-loop-k
-invariant-loop-k l = IsNumberedTo l.n l.matrix

@@ -1,0 +1,89 @@
+"""Calls of the case programs whose arguments are too long to be kept in a file: deep, wide and many."""
+
+# brackets nest at most this deep
+DEEPEST = 5000
+
+
+def nested(front, middle, back, times):
+    return front * times + middle + back * times
+
+
+def arrows(count):
+    """The type of the functions that take so many arguments of type I, to I."""
+    return nested("(", "I", " I)", count)
+
+
+def applied(head, arguments):
+    return "(A " * len(arguments) + head + "".join(f" {argument})" for argument in arguments)
+
+
+def deep_forms():
+    yield f"sexp {nested('(', 'a', ')', DEEPEST)}", "0"
+    yield f"sexp {nested('(', 'a', ')', DEEPEST + 1)}", f"Text(TooDeep({DEEPEST}))"
+    for ty in [nested("(O ", "O", ")", DEEPEST), arrows(DEEPEST)]:
+        yield f"type {ty}", ty
+    for term in [
+        nested("(A NOT ", "TRUTH", ")", DEEPEST),
+        nested("(L I ", f"(B {DEEPEST - 2})", ")", DEEPEST - 1),
+        nested("(A (L O (B 0)) ", "(V x O)", ")", DEEPEST - 2),
+        nested("(A (L I ", "(V x O)", ") (V y I))", DEEPEST // 2 - 1),
+    ]:
+        yield f"term {term}", term
+
+
+def deep_terms():
+    negations = nested("(A NOT ", "TRUTH", ")", DEEPEST - 1)
+    yield f"type_of {negations}", "O"
+    yield f"same ({negations} {negations})", "yes"
+    yield f"free_variables {negations}", "0"
+
+
+def deep_normal_forms():
+    count = DEEPEST // 2 - 10
+    many = arrows(count)
+    left = applied(f"(V f {many})", ["(V c I)"] * count)
+    conjunctions = nested("(A (A AND ", "TRUTH", ") TRUTH)", count)
+    abstractions = nested("(L I ", f"(B {DEEPEST - 2})", ")", DEEPEST - 1)
+    negations = nested("(A NOT ", "TRUTH", ")", DEEPEST)
+    to_the_right = nested("(A (A AND TRUTH) ", "TRUTH", ")", DEEPEST - 1)
+    for long in [negations, left, abstractions, conjunctions, to_the_right, wide(14)]:
+        yield f"normal {long}", long
+        yield f"is_long_normal {long}", "yes"
+    yield f"normal {nested('(A (L I (B 0)) ', '(V c I)', ')', DEEPEST - 2)}", "(V c I)"
+    bound = [f"(B {index})" for index in reversed(range(count))]
+    yield f"normal (V f {many})", nested("(L I ", applied(f"(V f {many})", bound), ")", count)
+
+
+def wide(depth):
+    """A full tree of conjunctions of TRUTH."""
+    term = "TRUTH"
+    for _ in range(depth):
+        term = f"(A (A AND {term}) {term})"
+    return term
+
+
+def letter(number):
+    return f"(V a{number} O)"
+
+
+def many_premises():
+    steps = " ".join(f"(A (A IMPLIES {letter(n)}) {letter(n + 1)})" for n in reversed(range(1, 500)))
+    yield f"follows (({steps} {letter(1)}) {letter(500)})", "yes"
+    yield f"follows (({' '.join(pigeons(6, 5))}) FALSEHOOD)", "yes"
+
+
+def pigeons(count, holes):
+    """Each pigeon is in a hole, and no two are in one."""
+    for pigeon in range(count):
+        some = "FALSEHOOD"
+        for hole in range(holes):
+            some = f"(A (A OR {some}) {letter(pigeon * holes + hole)})"
+        yield some
+        for other in range(pigeon):
+            for hole in range(holes):
+                yield f"(A NOT (A (A AND {letter(pigeon * holes + hole)}) {letter(other * holes + hole)}))"
+
+
+def deep_calls():
+    """Pairs of a program's name and its calls, each with its answer."""
+    yield "term_calls", [*deep_forms(), *deep_terms(), *deep_normal_forms(), *many_premises()]
