@@ -1,0 +1,68 @@
+//! Answers, and why there are none.
+
+use core_text::faults::TextFault;
+use core_text::writers::write_term;
+use expansion_tree::faults::FitFault;
+use hol_terms::lists::Text;
+use hol_terms::terms::Tm;
+use std::alloc::{AllocError, Global};
+
+/// The answer to a call, as it is printed.
+pub type Answer = Result<String, NoAnswer>;
+
+/// Why a call isn't answered.
+#[derive(Clone, Copy, Debug)]
+pub enum NoAnswer {
+    /// No call has that name.
+    NoSuchCall,
+    /// The formula has no type, or another one than O.
+    NoFormula,
+    /// The arguments are no form, term, tree, mating or proof.
+    Text(TextFault),
+    /// The tree doesn't fit.
+    Fit(FitFault),
+    /// The pair of this number isn't good.
+    BadPair(u64),
+    /// Memory is wanting.
+    Memory,
+}
+
+impl From<AllocError> for NoAnswer {
+    fn from(_error: AllocError) -> NoAnswer {
+        NoAnswer::Memory
+    }
+}
+
+impl From<TextFault> for NoAnswer {
+    fn from(fault: TextFault) -> NoAnswer {
+        NoAnswer::Text(fault)
+    }
+}
+
+impl From<FitFault> for NoAnswer {
+    fn from(fault: FitFault) -> NoAnswer {
+        NoAnswer::Fit(fault)
+    }
+}
+
+/// The text as a string.
+pub fn string_of(alloc: Global, text: &Text) -> Answer {
+    match std::str::from_utf8(text.as_slice()) {
+        Ok(string) => Ok(String::from_str(alloc, string)?),
+        Err(_) => Err(NoAnswer::Text(TextFault::NotUtf8)),
+    }
+}
+
+/// The term as text.
+pub fn term_text(alloc: Global, t: &Tm) -> Answer {
+    string_of(alloc, &write_term(alloc, t)?)
+}
+
+/// The word with the numbers behind it.
+pub fn with_numbers(alloc: Global, word: &str, numbers: &[u64]) -> Answer {
+    let mut answer = String::from_str(alloc, word)?;
+    for number in numbers {
+        answer.push_str(format!(in alloc; " {number}")?.as_str())?;
+    }
+    Ok(answer)
+}

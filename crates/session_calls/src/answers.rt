@@ -1,0 +1,43 @@
+//! Answers, and why there are none.
+
+use core_text::faults::TextFault;
+use hol_terms::lists::Text;
+use std::alloc::{AllocError, Global};
+
+/// The answer to a call, as it is printed.
+pub type Answer = Result<String, NoAnswer>;
+
+/// Why a call isn't answered.
+#[derive(Clone, Copy, Debug)]
+pub enum NoAnswer {
+    /// No call, and no command, has that name.
+    NoSuchCall,
+    /// The arguments aren't as many as the call takes.
+    Arguments,
+    /// A term has no type, or another one than the call takes.
+    NotTyped,
+    /// The arguments are no form, term, type, name or number.
+    Text(TextFault),
+    /// Memory is wanting.
+    Memory,
+}
+
+impl From<AllocError> for NoAnswer {
+    fn from(_error: AllocError) -> NoAnswer {
+        NoAnswer::Memory
+    }
+}
+
+impl From<TextFault> for NoAnswer {
+    fn from(fault: TextFault) -> NoAnswer {
+        NoAnswer::Text(fault)
+    }
+}
+
+/// The text as a string.
+pub fn string_of(alloc: Global, text: &Text) -> Answer {
+    match std::str::from_utf8(text.as_slice()) {
+        Ok(string) => Ok(String::from_str(alloc, string)?),
+        Err(_) => Err(NoAnswer::Text(TextFault::NotUtf8)),
+    }
+}
