@@ -84,6 +84,35 @@ def pigeons(count, holes):
                 yield f"(A NOT (A (A AND {letter(pigeon * holes + hole)}) {letter(other * holes + hole)}))"
 
 
+def deep_proofs():
+    negations = nested("(A NOT ", "(V p O)", ")", DEEPEST - 2)
+    yield f"deep_formula ({negations} {nested('(NOT ', 'LEAF', ')', DEEPEST - 2)})", negations
+    front = "(PROOF 1 TRUTH "
+    proof = f"{front}{nested('(NOT ', 'LEAF', ')', DEEPEST - 1)} ())"
+    yield f"read_proof {proof}", f"{proof}\n"
+    place = len(front) + len("(NOT ") * (DEEPEST - 1)
+    yield f"read_proof {front}{nested('(NOT ', 'LEAF', ')', DEEPEST)} ())", f"Text(TooDeep({place}))"
+    pairs = " ".join(f"({n} {n + 1})" for n in range(1, 50_001))
+    yield f"read_mating ({pairs})", f"50000 {pairs}"
+
+
+def many_branches(count):
+    """Branches that each wait for the next one."""
+    body = "(A (A IMPLIES (A (V P (O I)) (B 1))) (A (V P (O I)) (B 0)))"
+    formula = f"(A (SOME I) (L I (A (ALL I) (L I {body}))))"
+    branches = " ".join(f"((V a{n + 1} I) (SEL a{n} (IMPLIES LEAF LEAF)))" for n in range(1, count + 1))
+    yield f"order ({formula} (EXP {branches}))", "order " + " ".join(str(n) for n in reversed(range(1, count + 1)))
+
+
+def long_path(depth):
+    """A full tree of disjunctions: its leaves are one path."""
+    formula, tree = "(V p O)", "LEAF"
+    for _ in range(depth):
+        formula, tree = f"(A (A OR {formula}) {formula})", f"(OR {tree} {tree})"
+    yield f"first_open (PROOF 1 {formula} {tree} ())", "path " + " ".join(str(n) for n in range(1, 2**depth + 1))
+
+
 def deep_calls():
     """Pairs of a program's name and its calls, each with its answer."""
     yield "term_calls", [*deep_forms(), *deep_terms(), *deep_normal_forms(), *many_premises()]
+    yield "proof_calls", [*deep_proofs(), *many_branches(5_000), *long_path(16)]

@@ -1,0 +1,42 @@
+//! Answers calls of the crates of printed text and of scripts, a call on each line of the standard input: its name, and its arguments.
+#![tactic(auto)]
+
+mod answers;
+mod printing;
+mod scripts;
+
+use crate::answers::{Answer, NoAnswer};
+use std::alloc::Global;
+use std::io;
+
+/// The answer to the call of that name on the arguments.
+fn answer(alloc: Global, call: &str, arguments: &str) -> Answer {
+    match call {
+        "printed" => printing::printed(alloc, arguments),
+        "read_back" => printing::read_back(alloc, arguments),
+        "printed_lines" => printing::printed_lines(alloc, arguments),
+        "script" => scripts::script(alloc, arguments),
+        "script_of_bytes" => scripts::script_of_bytes(alloc, arguments),
+        "executed" => scripts::commands_executed(alloc, arguments),
+        _ => Err(NoAnswer::NoSuchCall),
+    }
+}
+
+fn main(rt: HostRuntime) -> io::Result<()> {
+    let alloc = rt.alloc();
+    for line in rt.lines(alloc) {
+        let line = line?;
+        println!(rt; "{line}")?;
+        let Some((call, arguments)) = line.as_str().split_once(' ') else {
+            continue;
+        };
+        if call == "#" {
+            continue;
+        }
+        match answer(alloc, call, arguments) {
+            Ok(text) => println!(rt; "= {text}")?,
+            Err(fault) => println!(rt; "= {fault:?}")?,
+        }
+    }
+    Ok(())
+}
