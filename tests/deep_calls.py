@@ -112,7 +112,21 @@ def long_path(depth):
     yield f"first_open (PROOF 1 {formula} {tree} ())", "path " + " ".join(str(n) for n in range(1, 2**depth + 1))
 
 
+def deep_derivations():
+    front = "(DERIVATION 1 (1 () TRUTH (UI 0 "
+    derivation = f"{front}{nested('(L O ', 'TRUTH', ')', DEEPEST - 3)})))"
+    yield f"derivation {derivation}", f"{derivation}\n"
+    place = len(front) + len("(L O ") * (DEEPEST - 3)
+    yield f"derivation {front}{nested('(L O ', 'TRUTH', ')', DEEPEST - 2)})))", f"Text(TooDeep({place}))"
+    many = " ".join(str(n) for n in range(1, 60_001))
+    derivation = f"(DERIVATION 1 (70000 ({many}) TRUTH (RULEP {many})))"
+    yield f"derivation {derivation}", f"{derivation}\n"
+    derivation = f"(DERIVATION 1 {' '.join(f'({n} ({n}) TRUTH (P))' for n in range(1, 40_001))})"
+    yield f"derivation {derivation}", f"{derivation}\n"
+
+
 def deep_calls():
     """Pairs of a program's name and its calls, each with its answer."""
     yield "term_calls", [*deep_forms(), *deep_terms(), *deep_normal_forms(), *many_premises()]
     yield "proof_calls", [*deep_proofs(), *many_branches(5_000), *long_path(16)]
+    yield "deduction_calls", list(deep_derivations())
