@@ -1,6 +1,7 @@
 //! Refusals of the rules as text.
 
-use crate::answers::{Answer, NoAnswer, push_term, push_terms, string_of};
+use crate::answers::{Answer, NoAnswer, push_terms};
+use call_lines::answers::{push_term, string_of};
 use hol_terms::lists::Text;
 use nd_rules::faults::RuleFault;
 use std::alloc::Global;
@@ -15,7 +16,7 @@ pub fn push_evidence(
         RuleFault::NotFollows(atoms) => push_terms(alloc, answer, atoms),
         RuleFault::NotConvertible(first, second) => {
             push_term(alloc, answer, first)?;
-            push_term(alloc, answer, second)
+            Ok(push_term(alloc, answer, second)?)
         }
         _ => Ok(()),
     }

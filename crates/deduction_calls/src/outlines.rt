@@ -4,8 +4,9 @@ ghost use Rattle.std.specs.Prelude.{IfOk, IfSome};
 ghost use Rattle.nd_rules.specs.Lines.{plain_line};
 ghost use Rattle.nd_rules.specs.Outlines.{IsWellFormed};
 
-use crate::answers::{Answer, NoAnswer, term_text};
+use crate::answers::{Answer, NoAnswer};
 use crate::texts::{derivation, outline_text};
+use call_lines::answers::term_text;
 use nd_rules::lines::{Line, Why};
 use nd_rules::outlines::Outline;
 use std::alloc::Global;
@@ -86,7 +87,7 @@ pub fn found(alloc: Global, arguments: &str) -> Answer {
     let (number, text) = numbered(arguments)?;
     let outline = derivation(alloc, text)?;
     match outline.find(number) {
-        Some(line) => term_text(alloc, &line.formula),
+        Some(line) => Ok(term_text(alloc, &line.formula)?),
         None => Ok(String::from_str(alloc, "none")?),
     }
 }

@@ -1,8 +1,9 @@
 //! Calls of `nd_rules` on a line and the outline of the others.
 
-use crate::answers::{Answer, NoAnswer, number_or_none, term_text, verdict};
+use crate::answers::{Answer, NoAnswer, number_or_none};
 use crate::evidence::refusal;
 use crate::outlines::{apart, numbered};
+use call_lines::answers::{term_text, verdict};
 use hol_terms::lists::Numbers;
 use nd_rules::faults::RuleFault;
 use nd_rules::justifying::justify;
@@ -46,7 +47,7 @@ pub fn formula_at(alloc: Global, arguments: &str) -> Answer {
     let (number, rest) = numbered(arguments)?;
     let apart = apart(alloc, rest)?;
     match line_at(&apart.others, &apart.line, number) {
-        Some(line) => term_text(alloc, &line.formula),
+        Some(line) => Ok(term_text(alloc, &line.formula)?),
         None => Ok(String::from_str(alloc, "none")?),
     }
 }
@@ -71,13 +72,13 @@ pub fn late(alloc: Global, arguments: &str) -> Answer {
 /// `n DERIVATION`: whether the formula is as the rule wants it.
 pub fn shape(alloc: Global, arguments: &str) -> Answer {
     let apart = apart(alloc, arguments)?;
-    verdict(alloc, has_shape(alloc, &apart.others, &apart.line)?)
+    Ok(verdict(alloc, has_shape(alloc, &apart.others, &apart.line)?)?)
 }
 
 /// `n DERIVATION`: whether the hypotheses are as the rule wants them.
 pub fn rest(alloc: Global, arguments: &str) -> Answer {
     let apart = apart(alloc, arguments)?;
-    verdict(alloc, has_hypotheses(&apart.others, &apart.line))
+    Ok(verdict(alloc, has_hypotheses(&apart.others, &apart.line))?)
 }
 
 /// `n DERIVATION`: the first line where the rule's variable is free and may not be.

@@ -1,6 +1,7 @@
 //! Calls of `nd_rules` on formulas.
 
-use crate::answers::{Answer, NoAnswer, push_term, string_of, term_text, verdict};
+use crate::answers::{Answer, NoAnswer};
+use call_lines::answers::{push_term, string_of, term_text, verdict};
 use core_text::brackets::read_sexp;
 use core_text::sexps::Sexp;
 use core_text::terms::{read_preterm, read_term};
@@ -43,7 +44,7 @@ pub fn typed(alloc: Global, arguments: &str) -> Answer {
     let form = form(alloc, arguments)?;
     let t = read_preterm(alloc, form.first())?;
     let ty = read_type(alloc, form.second())?;
-    verdict(alloc, has_type(alloc, &t, &ty)?)
+    Ok(verdict(alloc, has_type(alloc, &t, &ty)?)?)
 }
 
 /// `(FIRST SECOND)`: the long normal forms of the two formulas, where they differ, or `none`.

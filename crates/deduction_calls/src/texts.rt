@@ -1,7 +1,11 @@
 //! Calls of `nd_check`.
 
-use crate::answers::{Answer, NoAnswer, string_of, term_text};
+ghost use Rattle.std.specs.Prelude.{IfOk};
+ghost use Rattle.nd_check.specs.Texts.{IsDerivationText};
+
+use crate::answers::{Answer, NoAnswer};
 use crate::evidence::push_evidence;
+use call_lines::answers::{string_of, term_text};
 use hol_terms::lists::Text;
 use nd_check::texts::read_derivation;
 use nd_check::verifying::{VerifyFault, conclusion, verify};
@@ -10,7 +14,9 @@ use nd_rules::outlines::Outline;
 use std::alloc::Global;
 
 /// The outline of a derivation text.
-pub fn derivation(alloc: Global, text: &str) -> Result<Outline, NoAnswer> {
+pub fn derivation(alloc: Global, text: &str) -> Result<Outline, NoAnswer>
+    ensures { IfOk result (λ outline. IsDerivationText text.now outline) }
+{
     Ok(read_derivation(alloc, text.as_bytes())?)
 }
 
@@ -19,7 +25,7 @@ pub fn outline_text(alloc: Global, outline: &Outline) -> Answer {
     if outline.len() == 0 {
         return Ok(String::from_str(alloc, "no line")?);
     }
-    string_of(alloc, &write_derivation(alloc, outline)?)
+    Ok(string_of(alloc, &write_derivation(alloc, outline)?)?)
 }
 
 /// `DERIVATION`: the derivation, written again.
@@ -61,5 +67,5 @@ pub fn last_formula(alloc: Global, arguments: &str) -> Answer {
     if outline.len() == 0 {
         return Err(NoAnswer::NoLine);
     }
-    term_text(alloc, conclusion(&outline))
+    Ok(term_text(alloc, conclusion(&outline))?)
 }

@@ -1,9 +1,8 @@
 //! Answers, and why there are none.
 
 use core_text::faults::TextFault;
-use hol_terms::lists::Text;
 use script_text::faults::CommandFault;
-use std::alloc::{AllocError, Global};
+use std::alloc::AllocError;
 use tps_reader::faults::RawFault;
 
 /// The answer to a call, as it is printed.
@@ -16,8 +15,6 @@ pub enum NoAnswer {
     NoSuchCall,
     /// The arguments aren't as many as the call takes, or not of its kind.
     Arguments,
-    /// A term has no type.
-    NotTyped,
     /// No types fit a formula text, which shows first at this place.
     NoTyping(u64),
     /// The arguments are no core text.
@@ -52,17 +49,4 @@ impl From<CommandFault> for NoAnswer {
     fn from(fault: CommandFault) -> NoAnswer {
         NoAnswer::Command(fault)
     }
-}
-
-/// The text as a string.
-pub fn string_of(alloc: Global, text: &Text) -> Answer {
-    match std::str::from_utf8(text.as_slice()) {
-        Ok(string) => Ok(String::from_str(alloc, string)?),
-        Err(_) => Err(NoAnswer::Text(TextFault::NotUtf8)),
-    }
-}
-
-/// `yes` or `no`.
-pub fn verdict(alloc: Global, holds: bool) -> Answer {
-    Ok(String::from_str(alloc, if holds { "yes" } else { "no" })?)
 }

@@ -1,8 +1,9 @@
 //! Calls of `script_text`.
 
-use crate::answers::{Answer, verdict};
+use crate::answers::Answer;
 use crate::forms::{read_bytes, read_repeated};
-use crate::raws::{name_text, raw_text};
+use crate::raws::raw_text;
+use call_lines::answers::{name_text, verdict};
 use script_text::commands::ScriptCommand;
 use script_text::readers::read_command;
 use std::alloc::Global;
@@ -73,7 +74,7 @@ fn simple_text(alloc: Global, command: &ScriptCommand) -> Answer {
             var,
         } => {
             let head = with_numbers(alloc, "RULEC", &[*number, *some_line, *hyp, *src]);
-            with_name(alloc, head, name_text(alloc, var))
+            with_name(alloc, head, Ok(name_text(alloc, var)?))
         }
         ScriptCommand::Undo => with_numbers(alloc, "UNDO", &[]),
         ScriptCommand::Done => with_numbers(alloc, "DONE", &[]),
@@ -125,5 +126,5 @@ pub fn command_of_bytes(alloc: Global, arguments: &str) -> Answer {
 pub fn command_of_repeated(alloc: Global, arguments: &str) -> Answer {
     let line = read_repeated(alloc, arguments)?;
     read_command(alloc, line.as_bytes())?;
-    verdict(alloc, true)
+    Ok(verdict(alloc, true)?)
 }

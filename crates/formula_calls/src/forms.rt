@@ -1,14 +1,16 @@
 //! Arguments that are core text, and what is written of types and terms.
 
-use crate::answers::{Answer, NoAnswer, string_of};
+ghost use Rattle.std.specs.Prelude.{◌≡◌, IfOk};
+ghost use Rattle.core_text.specs.Forms.{number_form};
+ghost use Rattle.core_text.specs.Placed.{form_of};
+
+use crate::answers::{Answer, NoAnswer};
+use call_lines::arguments::members;
 use core_text::brackets::read_sexp;
 use core_text::sexps::{Sexp, Sexps};
 use core_text::terms::{read_name, read_number};
 use core_text::types::read_type;
-use core_text::writers::{write_term, write_type};
 use hol_terms::lists::{Text, Vars};
-use hol_terms::terms::Tm;
-use hol_terms::types::Ty;
 use std::alloc::{AllocError, Global};
 
 /// What stands in front of the bar, as a form, and the text behind it.
@@ -19,26 +21,10 @@ pub fn form_and_text(alloc: Global, arguments: &str) -> Result<(Sexp, &str), NoA
     }
 }
 
-/// The typed term as text.
-pub fn term_text(alloc: Global, t: &Tm) -> Answer {
-    string_of(alloc, &write_term(alloc, t)?)
-}
-
-/// The type as text.
-pub fn type_text(alloc: Global, ty: &Ty) -> Answer {
-    string_of(alloc, &write_type(alloc, ty)?)
-}
-
-/// The members of a list.
-fn members(list: &Sexp) -> Result<&Sexps, NoAnswer> {
-    match list {
-        Sexp::List(members, _) => Ok(members),
-        _ => Err(NoAnswer::Arguments),
-    }
-}
-
 /// The byte that the form is.
-fn read_byte(form: &Sexp) -> Result<u8, NoAnswer> {
+fn read_byte(form: &Sexp) -> Result<u8, NoAnswer>
+    ensures { IfOk result (λ byte. form_of form.now ≡ number_form byte) }
+{
     match u8::try_from(read_number(form)?) {
         Ok(byte) => Ok(byte),
         Err(_) => Err(NoAnswer::Arguments),

@@ -9,6 +9,7 @@ mod readings;
 mod typings;
 
 use crate::answers::{Answer, NoAnswer};
+use call_lines::lines::call_in;
 use std::alloc::Global;
 use std::io;
 
@@ -36,12 +37,9 @@ fn main(rt: HostRuntime) -> io::Result<()> {
     for line in rt.lines(alloc) {
         let line = line?;
         println!(rt; "{line}")?;
-        let Some((call, arguments)) = line.as_str().split_once(' ') else {
+        let Some((call, arguments)) = call_in(line.as_str()) else {
             continue;
         };
-        if call == "#" {
-            continue;
-        }
         match answer(alloc, call, arguments) {
             Ok(text) => println!(rt; "= {text}")?,
             Err(fault) => println!(rt; "= {fault:?}")?,

@@ -1,18 +1,12 @@
 //! Raw formulas as text.
 
 use crate::answers::Answer;
-use crate::forms::{term_text, type_text};
+use call_lines::answers::{name_text, term_text, type_text};
 use hol_terms::names::Name;
 use hol_terms::terms::{Con, Tm};
 use hol_terms::types::Ty;
 use std::alloc::Global;
 use tps_reader::raws::{Binder, Infix, Raw};
-
-/// The name.
-pub fn name_text(alloc: Global, name: &Name) -> Answer {
-    let text: String = name.characters().iter().copied().collect(alloc)?;
-    Ok(text)
-}
 
 /// The name, and behind a colon the type where one is written.
 fn variable_text(alloc: Global, name: &Name, ty: &Option<Ty>) -> Answer {
@@ -28,7 +22,7 @@ fn variable_text(alloc: Global, name: &Name, ty: &Option<Ty>) -> Answer {
 
 /// The constant.
 fn constant_text(alloc: Global, con: &Con) -> Answer {
-    term_text(alloc, &Tm::Con(con.copy(alloc)?))
+    Ok(term_text(alloc, &Tm::Con(con.copy(alloc)?))?)
 }
 
 /// The word of a connective, with a space around it.

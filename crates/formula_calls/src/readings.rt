@@ -1,8 +1,13 @@
 //! Calls of `tps_reader`.
 
-use crate::answers::{Answer, NoAnswer, verdict};
+ghost use Rattle.std.specs.Prelude.{◌≡◌, IfOk, List, decimal, string_bytes};
+ghost use Rattle.tps_reader.specs.Depth.{depth_of};
+ghost use Rattle.tps_reader.specs.Tokens.{AreTokensOf, Token as PlainToken};
+
+use crate::answers::{Answer, NoAnswer};
 use crate::forms::{form_and_text, read_bytes, read_repeated};
 use crate::raws::raw_text;
+use call_lines::answers::verdict;
 use core_text::sexps::Sexp;
 use core_text::terms::read_number;
 use std::alloc::Global;
@@ -24,7 +29,9 @@ pub fn token_places(alloc: Global, arguments: &str) -> Answer {
 }
 
 /// `TEXT`: its depth.
-pub fn depth(alloc: Global, arguments: &str) -> Answer {
+pub fn depth(alloc: Global, arguments: &str) -> Answer
+    ensures { IfOk result (λ answer. (tokens : List PlainToken) × AreTokensOf arguments.now tokens × string_bytes answer ≡ decimal (depth_of tokens)) }
+{
     let tokens = read_tokens(alloc, arguments.as_bytes())?;
     let depth = tokens.depth();
     Ok(format!(in alloc; "{depth}")?)
@@ -45,7 +52,7 @@ pub fn raw_of_bytes(alloc: Global, arguments: &str) -> Answer {
 pub fn raw_of_repeated(alloc: Global, arguments: &str) -> Answer {
     let text = read_repeated(alloc, arguments)?;
     read_raw(alloc, text.as_bytes())?;
-    verdict(alloc, true)
+    Ok(verdict(alloc, true)?)
 }
 
 /// The phrase of the tokens of the range.

@@ -1,7 +1,8 @@
 //! Calls of `type_infer`.
 
 use crate::answers::{Answer, NoAnswer};
-use crate::forms::{form_and_text, read_variables, term_text};
+use crate::forms::{form_and_text, read_variables};
+use call_lines::answers::term_text;
 use hol_terms::lists::Vars;
 use hol_terms::types::Ty;
 use std::alloc::Global;
@@ -12,7 +13,7 @@ use type_infer::inference::{InferFault, infer};
 fn annotation(alloc: Global, text: &str, wanted: Option<&Ty>, known: &Vars) -> Answer {
     let raw = read_raw(alloc, text.as_bytes())?;
     match infer(alloc, &raw, wanted, known) {
-        Ok(t) => term_text(alloc, &t),
+        Ok(t) => Ok(term_text(alloc, &t)?),
         Err(InferFault::NoTyping(place)) => Err(NoAnswer::NoTyping(place)),
         Err(InferFault::Memory) => Err(NoAnswer::Memory),
         Err(InferFault::Ambiguous(first, second)) => {

@@ -1,10 +1,7 @@
 //! Answers, and why there are none.
 
 use core_text::faults::TextFault;
-use core_text::writers::write_term;
 use expansion_tree::faults::FitFault;
-use hol_terms::lists::Text;
-use hol_terms::terms::Tm;
 use std::alloc::{AllocError, Global};
 
 /// The answer to a call, as it is printed.
@@ -43,19 +40,6 @@ impl From<FitFault> for NoAnswer {
     fn from(fault: FitFault) -> NoAnswer {
         NoAnswer::Fit(fault)
     }
-}
-
-/// The text as a string.
-pub fn string_of(alloc: Global, text: &Text) -> Answer {
-    match std::str::from_utf8(text.as_slice()) {
-        Ok(string) => Ok(String::from_str(alloc, string)?),
-        Err(_) => Err(NoAnswer::Text(TextFault::NotUtf8)),
-    }
-}
-
-/// The term as text.
-pub fn term_text(alloc: Global, t: &Tm) -> Answer {
-    string_of(alloc, &write_term(alloc, t)?)
 }
 
 /// The word with the numbers behind it.

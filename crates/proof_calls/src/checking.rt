@@ -1,7 +1,8 @@
 //! Calls of `exp_check`.
 
-use crate::answers::{Answer, NoAnswer, string_of, with_numbers};
+use crate::answers::{Answer, NoAnswer, with_numbers};
 use crate::ordering::order_text;
+use call_lines::answers::string_of;
 use exp_check::accepted::Accepted;
 use exp_check::checks::check;
 use exp_check::faults::CheckFault;
@@ -41,7 +42,7 @@ pub fn checked(alloc: Global, arguments: &str) -> Answer {
 pub fn accepted_again(alloc: Global, arguments: &str) -> Answer {
     let proof = read_proof(alloc, arguments.as_bytes())?;
     match check(alloc, proof) {
-        Ok(accepted) => string_of(alloc, &write_proof(alloc, &accepted.into_text())?),
+        Ok(accepted) => Ok(string_of(alloc, &write_proof(alloc, &accepted.into_text())?)?),
         Err(fault) => fault_text(alloc, &fault),
     }
 }

@@ -1,43 +1,25 @@
 //! Calls of `expansion_tree`.
 
-ghost use Rattle.std.specs.Prelude.{IfOk};
-ghost use Rattle.hol_terms.specs.Terms.{plain_term};
-ghost use Rattle.hol_terms.specs.Typing.{IsFormula};
-
-use crate::answers::{Answer, NoAnswer, string_of, term_text};
+use crate::answers::{Answer, NoAnswer};
+use call_lines::answers::{string_of, term_text};
+use call_lines::arguments::formula;
 use core_text::brackets::read_sexp;
-use core_text::sexps::Sexp;
-use core_text::terms::read_preterm;
 use expansion_tree::deep::deep_formula;
 use expansion_tree::fitted::{Fitted, LeafView, fit};
 use expansion_tree::matings::Mating;
 use expansion_tree::matrices::Matrix;
 use hol_terms::terms::Tm;
-use hol_terms::types::Ty;
-use hol_terms::typing::type_of;
 use proof_text::texts::ProofText;
 use proof_text::trees::read_tree;
 use proof_text::writers::write_proof;
 use std::alloc::Global;
 
-/// The formula that the form is.
-fn formula(alloc: Global, form: &Sexp) -> Result<Tm, NoAnswer>
-    ensures { IfOk result (λ t. IsFormula (plain_term t)) }
-{
-    let t = read_preterm(alloc, form)?;
-    let Some(ty) = type_of(alloc, &t)? else {
-        return Err(NoAnswer::NoFormula);
-    };
-    if !ty.same(&Ty::truth()) {
-        return Err(NoAnswer::NoFormula);
-    }
-    Ok(t)
-}
-
 /// `(FORMULA TREE)`: the tree fitted to the formula.
 pub fn fitted(alloc: Global, arguments: &str) -> Result<Fitted, NoAnswer> {
     let form = read_sexp(alloc, arguments.as_bytes())?;
-    let formula = formula(alloc, form.first())?;
+    let Some(formula) = formula(alloc, form.first())? else {
+        return Err(NoAnswer::NoFormula);
+    };
     let tree = read_tree(alloc, form.second())?;
     Ok(Fitted::new(alloc, formula, tree)?)
 }
@@ -45,7 +27,9 @@ pub fn fitted(alloc: Global, arguments: &str) -> Result<Fitted, NoAnswer> {
 /// `(FORMULA TREE)`: the two as `fit` keeps them, with no pair as a proof.
 pub fn kept(alloc: Global, arguments: &str) -> Answer {
     let form = read_sexp(alloc, arguments.as_bytes())?;
-    let formula = formula(alloc, form.first())?;
+    let Some(formula) = formula(alloc, form.first())? else {
+        return Err(NoAnswer::NoFormula);
+    };
     let tree = read_tree(alloc, form.second())?;
     let (formula, tree) = fit(alloc, &formula, &tree)?.into_parts();
     let mating = Mating::new(alloc);
@@ -54,7 +38,7 @@ pub fn kept(alloc: Global, arguments: &str) -> Answer {
         tree,
         mating,
     };
-    string_of(alloc, &write_proof(alloc, &proof)?)
+    Ok(string_of(alloc, &write_proof(alloc, &proof)?)?)
 }
 
 /// The leaf behind its sign.
@@ -141,5 +125,5 @@ pub fn occurrences(alloc: Global, arguments: &str) -> Answer {
 /// `(FORMULA TREE)`: the deep formula.
 pub fn deepened(alloc: Global, arguments: &str) -> Answer {
     let fitted = fitted(alloc, arguments)?;
-    term_text(alloc, &deep_formula(alloc, &fitted)?)
+    Ok(term_text(alloc, &deep_formula(alloc, &fitted)?)?)
 }

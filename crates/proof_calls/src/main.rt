@@ -10,6 +10,7 @@ mod ordering;
 mod texts;
 
 use crate::answers::{Answer, NoAnswer};
+use call_lines::lines::call_in;
 use std::alloc::Global;
 use std::io;
 
@@ -39,10 +40,7 @@ fn main(rt: HostRuntime) -> io::Result<()> {
     for line in rt.lines(alloc) {
         let line = line?;
         println!(rt; "{line}")?;
-        if line.as_str().starts_with('#') {
-            continue;
-        }
-        let Some((call, arguments)) = line.as_str().split_once(' ') else {
+        let Some((call, arguments)) = call_in(line.as_str()) else {
             continue;
         };
         match answer(alloc, call, arguments) {

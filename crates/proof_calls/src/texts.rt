@@ -1,6 +1,11 @@
 //! Calls of `proof_text`, and matings.
 
-use crate::answers::{Answer, string_of};
+ghost use Rattle.std.specs.Prelude.{◌≡◌, ◌++◌, ◌∷◌, [], IfOk, string_bytes};
+ghost use Rattle.core_text.specs.Written.{written};
+ghost use Rattle.proof_text.specs.Texts.{IsProofText, Proof, proof_form};
+
+use crate::answers::Answer;
+use call_lines::answers::string_of;
 use core_text::brackets::read_sexp;
 use proof_text::matings::read_mating;
 use proof_text::texts::read_proof;
@@ -8,9 +13,11 @@ use proof_text::writers::write_proof;
 use std::alloc::Global;
 
 /// `PROOF`: what is written for it, which ends a line of its own.
-pub fn proof_again(alloc: Global, arguments: &str) -> Answer {
+pub fn proof_again(alloc: Global, arguments: &str) -> Answer
+    ensures { IfOk result (λ answer. (p : Proof) × IsProofText arguments.now p × string_bytes answer ≡ written (proof_form p) ++ 10 ∷ []) }
+{
     let proof = read_proof(alloc, arguments.as_bytes())?;
-    string_of(alloc, &write_proof(alloc, &proof)?)
+    Ok(string_of(alloc, &write_proof(alloc, &proof)?)?)
 }
 
 /// `(PAIR ..)`: how many pairs the mating has, and each of them.

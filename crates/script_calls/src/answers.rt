@@ -1,8 +1,7 @@
 //! Answers, and why there are none.
 
 use core_text::faults::TextFault;
-use hol_terms::lists::Text;
-use std::alloc::{AllocError, Global};
+use std::alloc::AllocError;
 use tps_reader::faults::RawFault;
 
 /// The answer to a call, as it is printed.
@@ -13,8 +12,6 @@ pub type Answer = Result<String, NoAnswer>;
 pub enum NoAnswer {
     /// No call has that name.
     NoSuchCall,
-    /// The arguments aren't of the call's kind.
-    Arguments,
     /// A term has no type.
     NotTyped,
     /// The arguments are no core text.
@@ -41,17 +38,4 @@ impl From<RawFault> for NoAnswer {
     fn from(fault: RawFault) -> NoAnswer {
         NoAnswer::Raw(fault)
     }
-}
-
-/// The text as a string.
-pub fn string_of(alloc: Global, text: &Text) -> Answer {
-    match std::str::from_utf8(text.as_slice()) {
-        Ok(string) => Ok(String::from_str(alloc, string)?),
-        Err(_) => Err(NoAnswer::Text(TextFault::NotUtf8)),
-    }
-}
-
-/// `yes` or `no`.
-pub fn verdict(alloc: Global, holds: bool) -> Answer {
-    Ok(String::from_str(alloc, if holds { "yes" } else { "no" })?)
 }

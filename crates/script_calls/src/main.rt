@@ -6,6 +6,7 @@ mod printing;
 mod scripts;
 
 use crate::answers::{Answer, NoAnswer};
+use call_lines::lines::call_in;
 use std::alloc::Global;
 use std::io;
 
@@ -16,7 +17,6 @@ fn answer(alloc: Global, call: &str, arguments: &str) -> Answer {
         "read_back" => printing::read_back(alloc, arguments),
         "printed_lines" => printing::printed_lines(alloc, arguments),
         "script" => scripts::script(alloc, arguments),
-        "script_of_bytes" => scripts::script_of_bytes(alloc, arguments),
         "executed" => scripts::commands_executed(alloc, arguments),
         _ => Err(NoAnswer::NoSuchCall),
     }
@@ -27,12 +27,9 @@ fn main(rt: HostRuntime) -> io::Result<()> {
     for line in rt.lines(alloc) {
         let line = line?;
         println!(rt; "{line}")?;
-        let Some((call, arguments)) = line.as_str().split_once(' ') else {
+        let Some((call, arguments)) = call_in(line.as_str()) else {
             continue;
         };
-        if call == "#" {
-            continue;
-        }
         match answer(alloc, call, arguments) {
             Ok(text) => println!(rt; "= {text}")?,
             Err(fault) => println!(rt; "= {fault:?}")?,

@@ -1,6 +1,13 @@
 //! Calls of `tps_print`.
 
-use crate::answers::{Answer, NoAnswer, string_of, verdict};
+ghost use Rattle.std.specs.Prelude.{◌≡◌, IfOk, string_bytes};
+ghost use Rattle.core_text.specs.CoreForms.{IsFormOfTyped};
+ghost use Rattle.core_text.specs.Forms.{Form, IsTextOf};
+ghost use Rattle.hol_terms.specs.Terms.{Term};
+ghost use Rattle.tps_print.specs.Printed.{printed_formula};
+
+use crate::answers::{Answer, NoAnswer};
+use call_lines::answers::{string_of, verdict};
 use core_text::brackets::read_sexp;
 use core_text::terms::read_term;
 use hol_terms::lists::Vars;
@@ -14,9 +21,11 @@ use tps_reader::readers::read_raw;
 use type_infer::inference::infer;
 
 /// `TERM`: its text.
-pub fn printed(alloc: Global, arguments: &str) -> Answer {
+pub fn printed(alloc: Global, arguments: &str) -> Answer
+    ensures { IfOk result (λ answer. (f : Form) × (t : Term) × IsTextOf arguments.now f × IsFormOfTyped f t × string_bytes answer ≡ printed_formula t) }
+{
     let t = read_term(alloc, &read_sexp(alloc, arguments.as_bytes())?)?;
-    string_of(alloc, &print_formula(alloc, &t)?)
+    Ok(string_of(alloc, &print_formula(alloc, &t)?)?)
 }
 
 /// `TERM`: whether its text, with its type as the wanted one, is read again as the term alone.
@@ -28,8 +37,8 @@ pub fn read_back(alloc: Global, arguments: &str) -> Answer {
     let text = print_formula(alloc, &t)?;
     let raw = read_raw(alloc, text.as_slice())?;
     match infer(alloc, &raw, Some(&ty), &Vars::new(alloc)) {
-        Ok(again) => verdict(alloc, same(&t, &again)),
-        Err(_) => verdict(alloc, false),
+        Ok(again) => Ok(verdict(alloc, same(&t, &again))?),
+        Err(_) => Ok(verdict(alloc, false)?),
     }
 }
 

@@ -1,38 +1,13 @@
 //! Calls of `etps_script`. In a script and in the replies ` / ` stands for an end of line.
 
-use crate::answers::{Answer, NoAnswer, string_of};
-use core_text::brackets::read_sexp;
-use core_text::sexps::{Sexp, Sexps};
-use core_text::terms::read_number;
+use crate::answers::Answer;
+use call_lines::answers::string_of;
 use etps_script::replies::execute;
 use etps_script::scripts::run_script;
 use etps_session::sessions::Session;
 use hol_terms::lists::Text;
 use script_text::readers::read_command;
 use std::alloc::Global;
-
-/// The byte that the form is.
-fn read_byte(form: &Sexp) -> Result<u8, NoAnswer> {
-    match u8::try_from(read_number(form)?) {
-        Ok(byte) => Ok(byte),
-        Err(_) => Err(NoAnswer::Arguments),
-    }
-}
-
-/// `(BYTE ..)`: the text of these bytes.
-fn read_bytes(alloc: Global, arguments: &str) -> Result<Text, NoAnswer> {
-    let form = read_sexp(alloc, arguments.as_bytes())?;
-    let Sexp::List(members, _) = &form else {
-        return Err(NoAnswer::Arguments);
-    };
-    let mut rest = members;
-    let mut text = Text::new(alloc);
-    while let Sexps::More(member, more) = rest {
-        text.push(read_byte(&**member)?)?;
-        rest = &**more;
-    }
-    Ok(text)
-}
 
 /// The replies.
 fn replies_text(alloc: Global, replies: &Text) -> Answer {
@@ -46,16 +21,10 @@ pub fn script(alloc: Global, arguments: &str) -> Answer {
     replies_text(alloc, &run_script(alloc, script.as_bytes())?)
 }
 
-/// `(BYTE ..)`: the replies to the lines of the script of these bytes.
-pub fn script_of_bytes(alloc: Global, arguments: &str) -> Answer {
-    let script = read_bytes(alloc, arguments)?;
-    replies_text(alloc, &run_script(alloc, script.as_slice())?)
-}
-
 /// The reply to the command of a line, or the fault of the line.
 fn executed(alloc: Global, session: &mut Session, line: &str) -> Answer {
     match read_command(alloc, line.as_bytes()) {
-        Ok(command) => string_of(alloc, &execute(alloc, session, &command)?),
+        Ok(command) => Ok(string_of(alloc, &execute(alloc, session, &command)?)?),
         Err(fault) => Ok(format!(in alloc; "{fault:?}")?),
     }
 }

@@ -4,7 +4,8 @@ ghost use Rattle.std.specs.Prelude.{IfOk};
 ghost use Rattle.exp_check.specs.Proofs.{IsProof};
 ghost use Rattle.proof_text.specs.Texts.{plain_proof};
 
-use crate::answers::{Answer, NoAnswer, string_of};
+use crate::answers::{Answer, NoAnswer};
+use call_lines::answers::string_of;
 use core_text::brackets::read_sexp;
 use core_text::terms::read_number;
 use exp_check::accepted::Accepted;
@@ -28,7 +29,7 @@ fn chain_of(alloc: Global, arguments: &str) -> Result<ProofText, NoAnswer>
 /// `N`: what is written for the chain with so many instances.
 pub fn written(alloc: Global, arguments: &str) -> Answer {
     let proof = chain_of(alloc, arguments)?;
-    string_of(alloc, &write_proof(alloc, &proof)?)
+    Ok(string_of(alloc, &write_proof(alloc, &proof)?)?)
 }
 
 /// The figures of an accepted proof.

@@ -6,7 +6,9 @@ ghost use Rattle.hol_terms.specs.Terms.{plain_term, truth_type};
 ghost use Rattle.expansion_tree.specs.Standing.{Standing, Stands};
 ghost use Rattle.expansion_tree.specs.Trees.{plain_tree};
 
-use crate::answers::{Answer, NoAnswer, formula, string_of};
+use crate::answers::{Answer, NoAnswer};
+use call_lines::answers::string_of;
+use call_lines::arguments::{formula, members};
 use core_text::brackets::read_sexp;
 use core_text::sexps::{Sexp, Sexps};
 use core_text::terms::{read_number, read_preterm};
@@ -28,8 +30,10 @@ use tree_growth::names::TakenNames;
 fn long_formula(alloc: Global, form: &Sexp) -> Result<Tm, NoAnswer>
     ensures { IfOk result (λ n. Long [] (plain_term n) truth_type) }
 {
-    let formula = formula(alloc, form)?;
-    Ok(normal(alloc, &formula)?)
+    match formula(alloc, form)? {
+        Some(formula) => Ok(normal(alloc, &formula)?),
+        None => Err(NoAnswer::NoFormula),
+    }
 }
 
 /// The head that the term is.
@@ -44,13 +48,10 @@ fn head(alloc: Global, t: &Tm) -> Result<Head, NoAnswer> {
 /// The heads that the members of a list are.
 fn heads(alloc: Global, list: &Sexp) -> Result<Vec<Head>, NoAnswer> {
     let mut heads = Vec::new(alloc);
-    let Sexp::List(members, _) = list else {
-        return Err(NoAnswer::Arguments);
-    };
-    let mut members = members;
-    while let Sexps::More(member, rest) = members {
+    let mut rest = members(list)?;
+    while let Sexps::More(member, more) = rest {
         heads.push(head(alloc, &read_preterm(alloc, &**member)?)?)?;
-        members = &**rest;
+        rest = &**more;
     }
     Ok(heads)
 }
@@ -65,7 +66,7 @@ fn tree_text(alloc: Global, formula: &Tm, tree: &Tree) -> Answer {
         tree,
         mating,
     };
-    string_of(alloc, &write_proof(alloc, &proof)?)
+    Ok(string_of(alloc, &write_proof(alloc, &proof)?)?)
 }
 
 /// How many trees there are, and each on a line.

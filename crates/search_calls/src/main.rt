@@ -8,6 +8,7 @@ mod growing;
 mod searching;
 
 use crate::answers::{Answer, NoAnswer};
+use call_lines::lines::call_in;
 use std::alloc::Global;
 use std::io;
 
@@ -30,10 +31,7 @@ fn main(rt: HostRuntime) -> io::Result<()> {
     for line in rt.lines(alloc) {
         let line = line?;
         println!(rt; "{line}")?;
-        if line.as_str().starts_with('#') {
-            continue;
-        }
-        let Some((call, arguments)) = line.as_str().split_once(' ') else {
+        let Some((call, arguments)) = call_in(line.as_str()) else {
             continue;
         };
         match answer(alloc, call, arguments) {

@@ -1,8 +1,7 @@
 //! Answers, and why there are none.
 
 use core_text::faults::TextFault;
-use hol_terms::lists::Text;
-use std::alloc::{AllocError, Global};
+use std::alloc::AllocError;
 
 /// The answer to a call, as it is printed.
 pub type Answer = Result<String, NoAnswer>;
@@ -31,13 +30,5 @@ impl From<AllocError> for NoAnswer {
 impl From<TextFault> for NoAnswer {
     fn from(fault: TextFault) -> NoAnswer {
         NoAnswer::Text(fault)
-    }
-}
-
-/// The text as a string.
-pub fn string_of(alloc: Global, text: &Text) -> Answer {
-    match std::str::from_utf8(text.as_slice()) {
-        Ok(string) => Ok(String::from_str(alloc, string)?),
-        Err(_) => Err(NoAnswer::Text(TextFault::NotUtf8)),
     }
 }

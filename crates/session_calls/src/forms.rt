@@ -1,6 +1,7 @@
 //! Members of forms.
 
 use crate::answers::NoAnswer;
+use call_lines::arguments::members;
 use core_text::faults::TextFault;
 use core_text::sexps::{Sexp, Sexps};
 use core_text::terms::{read_name, read_number, read_term};
@@ -8,14 +9,6 @@ use hol_terms::lists::{Hyps, Numbers};
 use hol_terms::names::Name;
 use hol_terms::terms::Tm;
 use std::alloc::Global;
-
-/// The members of a list.
-pub fn members(form: &Sexp) -> Result<&Sexps, NoAnswer> {
-    match form {
-        Sexp::List(members, _) => Ok(members),
-        _ => Err(NoAnswer::Arguments),
-    }
-}
 
 /// The member at a place, counted from 0.
 pub fn member(form: &Sexp, place: u64) -> Result<&Sexp, NoAnswer> {

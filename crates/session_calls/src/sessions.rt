@@ -1,8 +1,10 @@
 //! Sessions as lists of commands.
 
-use crate::answers::{Answer, NoAnswer, string_of};
+use crate::answers::{Answer, NoAnswer};
 use crate::commands::{command, is_typed};
-use crate::forms::{members, number, term, word};
+use crate::forms::{number, term, word};
+use call_lines::answers::string_of;
+use call_lines::arguments::members;
 use core_text::brackets::read_sexp;
 use core_text::sexps::{Sexp, Sexps};
 use etps_session::faults::SessionFault;
@@ -22,7 +24,7 @@ fn refusal(alloc: Global, fault: &SessionFault) -> Answer {
         SessionFault::Rule(fault) => {
             let mut words = Text::new(alloc);
             fault.append_words(alloc, &mut words)?;
-            string_of(alloc, &words)
+            Ok(string_of(alloc, &words)?)
         }
         SessionFault::Memory => Err(NoAnswer::Memory),
     }
@@ -98,7 +100,7 @@ fn lines(alloc: Global, outline: &Outline) -> Answer {
     if outline.len() == 0 {
         return Ok(String::from_str(alloc, "no line")?);
     }
-    string_of(alloc, &write_derivation(alloc, outline)?)
+    Ok(string_of(alloc, &write_derivation(alloc, outline)?)?)
 }
 
 /// `(COMMAND ..)`: the reply to each command, and then the lines of the outline.

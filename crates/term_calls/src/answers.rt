@@ -1,8 +1,7 @@
 //! Answers, and why there are none.
 
 use core_text::faults::TextFault;
-use hol_terms::lists::Text;
-use std::alloc::{AllocError, Global};
+use std::alloc::AllocError;
 
 /// The answer to a call, as it is printed.
 pub type Answer = Result<String, NoAnswer>;
@@ -12,8 +11,6 @@ pub type Answer = Result<String, NoAnswer>;
 pub enum NoAnswer {
     /// No call has that name.
     NoSuchCall,
-    /// The arguments aren't as many as the call takes.
-    Arguments,
     /// The byte is no letter.
     NotALetter,
     /// The text is no name.
@@ -36,17 +33,4 @@ impl From<TextFault> for NoAnswer {
     fn from(fault: TextFault) -> NoAnswer {
         NoAnswer::Text(fault)
     }
-}
-
-/// The text as a string.
-pub fn string_of(alloc: Global, text: &Text) -> Answer {
-    match std::str::from_utf8(text.as_slice()) {
-        Ok(string) => Ok(String::from_str(alloc, string)?),
-        Err(_) => Err(NoAnswer::Text(TextFault::NotUtf8)),
-    }
-}
-
-/// `yes` or `no`.
-pub fn verdict(alloc: Global, holds: bool) -> Answer {
-    Ok(String::from_str(alloc, if holds { "yes" } else { "no" })?)
 }

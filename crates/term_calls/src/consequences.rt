@@ -1,7 +1,9 @@
 //! Calls of `rulep_decide`.
 
 use crate::answers::{Answer, NoAnswer};
-use crate::forms::{append_term, form};
+use crate::forms::form;
+use call_lines::answers::push_term;
+use call_lines::arguments::members;
 use core_text::sexps::{Sexp, Sexps};
 use core_text::terms::read_preterm;
 use rulep_decide::premises::Premises;
@@ -11,13 +13,10 @@ use std::alloc::Global;
 /// The formulas that the forms of a list are.
 fn formulas(alloc: Global, list: &Sexp) -> Result<Premises, NoAnswer> {
     let mut premises = Premises::new(alloc);
-    let Sexp::List(members, _) = list else {
-        return Err(NoAnswer::Arguments);
-    };
-    let mut members = members;
-    while let Sexps::More(member, rest) = members {
+    let mut rest = members(list)?;
+    while let Sexps::More(member, more) = rest {
         premises.add(&read_preterm(alloc, &**member)?)?;
-        members = &**rest;
+        rest = &**more;
     }
     Ok(premises)
 }
@@ -32,7 +31,7 @@ pub fn consequence(alloc: Global, arguments: &str) -> Answer {
         Verdict::Falsified(atoms) => {
             let mut answer = String::from_str(alloc, "no")?;
             for atom in atoms.as_slice() {
-                append_term(alloc, &mut answer, atom)?;
+                push_term(alloc, &mut answer, atom)?;
             }
             Ok(answer)
         }

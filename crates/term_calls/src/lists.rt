@@ -1,7 +1,8 @@
 //! Calls of `term_lists`.
 
 use crate::answers::{Answer, NoAnswer};
-use crate::forms::{append_term, form};
+use crate::forms::form;
+use call_lines::answers::push_term;
 use core_text::sexps::Sexp;
 use core_text::terms::{read_number, read_term};
 use core_text::types::read_type;
@@ -27,7 +28,7 @@ pub fn heads(alloc: Global, arguments: &str) -> Answer {
     let signature = signature_of(alloc, &form(alloc, arguments)?)?;
     let mut answer = format!(in alloc; "{}", signature.len())?;
     for head in signature.as_slice() {
-        append_term(alloc, &mut answer, &head.term(alloc)?)?;
+        push_term(alloc, &mut answer, &head.term(alloc)?)?;
     }
     Ok(answer)
 }
@@ -41,7 +42,7 @@ pub fn terms(alloc: Global, arguments: &str) -> Answer {
     let terms = long_terms(alloc, signature.as_slice(), &[], &ty, weight)?;
     let mut answer = format!(in alloc; "{}", terms.len())?;
     for t in terms.as_slice() {
-        append_term(alloc, &mut answer, t)?;
+        push_term(alloc, &mut answer, t)?;
     }
     Ok(answer)
 }

@@ -1,7 +1,8 @@
 //! Calls of `hol_terms` on letters, names and variables.
 
 use crate::answers::{Answer, NoAnswer};
-use crate::forms::{form, name_text};
+use crate::forms::form;
+use call_lines::answers::name_text;
 use core_text::terms::{read_name, read_number, read_preterm};
 use core_text::types::read_type;
 use hol_terms::letters::Letter;
@@ -21,7 +22,7 @@ pub fn letter(alloc: Global, arguments: &str) -> Answer {
 /// Any text: the name that it is.
 pub fn name(alloc: Global, arguments: &str) -> Answer {
     match Name::new(alloc, arguments) {
-        Ok(name) => name_text(alloc, &name),
+        Ok(name) => Ok(name_text(alloc, &name)?),
         Err(NameFault::NotAName) => Err(NoAnswer::NotAName),
         Err(NameFault::Memory) => Err(NoAnswer::Memory),
     }

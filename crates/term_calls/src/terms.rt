@@ -1,7 +1,8 @@
 //! Calls of `hol_terms`.
 
-use crate::answers::{Answer, NoAnswer, verdict};
-use crate::forms::{append_term, form, term_text, type_text};
+use crate::answers::{Answer, NoAnswer};
+use crate::forms::form;
+use call_lines::answers::{push_term, term_text, type_text, verdict};
 use core_text::terms::{read_name, read_preterm};
 use core_text::types::read_type;
 use hol_terms::indices::{abstract_over, instantiate};
@@ -24,7 +25,7 @@ pub fn type_of_term(alloc: Global, arguments: &str) -> Answer {
     let t = read_preterm(alloc, &form(alloc, arguments)?)?;
     match type_of(alloc, &t)? {
         None => Err(NoAnswer::NotTyped),
-        Some(ty) => type_text(alloc, &ty),
+        Some(ty) => Ok(type_text(alloc, &ty)?),
     }
 }
 
@@ -43,7 +44,7 @@ pub fn split(alloc: Global, arguments: &str) -> Answer {
 /// `(BODY TERM)`: the instance of the body.
 pub fn instance(alloc: Global, arguments: &str) -> Answer {
     let (body, t) = two_terms(alloc, arguments)?;
-    term_text(alloc, &instantiate(alloc, &body, &t)?)
+    Ok(term_text(alloc, &instantiate(alloc, &body, &t)?)?)
 }
 
 /// `(NAME TYPE TERM)`: the body over the variable of the closed term.
@@ -55,7 +56,7 @@ pub fn body_over(alloc: Global, arguments: &str) -> Answer {
     let t = read_preterm(alloc, form.third())?;
     match type_of(alloc, &t)? {
         None => Err(NoAnswer::NotTyped),
-        Some(_) => term_text(alloc, &abstract_over(alloc, &name, &ty, &t)?),
+        Some(_) => Ok(term_text(alloc, &abstract_over(alloc, &name, &ty, &t)?)?),
     }
 }
 
@@ -65,7 +66,7 @@ pub fn free(alloc: Global, arguments: &str) -> Answer {
     let name = read_name(alloc, form.first())?;
     let ty = read_type(alloc, form.second())?;
     let t = read_preterm(alloc, form.third())?;
-    verdict(alloc, is_free(&name, &ty, &t))
+    Ok(verdict(alloc, is_free(&name, &ty, &t))?)
 }
 
 /// `TERM`: how many free variables it has, and which, in order.
@@ -74,7 +75,7 @@ pub fn variables(alloc: Global, arguments: &str) -> Answer {
     let variables = free_variables(alloc, &t)?;
     let mut answer = format!(in alloc; "{}", variables.len())?;
     for (name, ty) in variables.as_slice() {
-        append_term(alloc, &mut answer, &Tm::variable(alloc, name, ty)?)?;
+        push_term(alloc, &mut answer, &Tm::variable(alloc, name, ty)?)?;
     }
     Ok(answer)
 }
@@ -82,5 +83,5 @@ pub fn variables(alloc: Global, arguments: &str) -> Answer {
 /// `(FIRST SECOND)`: whether the terms are the same.
 pub fn equal(alloc: Global, arguments: &str) -> Answer {
     let (s, t) = two_terms(alloc, arguments)?;
-    verdict(alloc, same(&s, &t))
+    Ok(verdict(alloc, same(&s, &t))?)
 }
