@@ -104,12 +104,18 @@ def many_branches(count):
     yield f"order ({formula} (EXP {branches}))", "order " + " ".join(str(n) for n in reversed(range(1, count + 1)))
 
 
-def long_path(depth):
-    """A full tree of disjunctions: its leaves are one path."""
-    formula, tree = "(V p O)", "LEAF"
-    for _ in range(depth):
-        formula, tree = f"(A (A OR {formula}) {formula})", f"(OR {tree} {tree})"
-    yield f"first_open (PROOF 1 {formula} {tree} ())", "path " + " ".join(str(n) for n in range(1, 2**depth + 1))
+def disjunctions(count):
+    """A balanced tree of so many disjuncts, as a formula and as an expansion tree."""
+    if count == 1:
+        return "(V p O)", "LEAF"
+    (left, left_tree), (right, right_tree) = disjunctions(count // 2), disjunctions(count - count // 2)
+    return f"(A (A OR {left}) {right})", f"(OR {left_tree} {right_tree})"
+
+
+def long_path(count):
+    """The leaves of a tree of disjunctions are one path."""
+    formula, tree = disjunctions(count)
+    yield f"first_open (PROOF 1 {formula} {tree} ())", "path " + " ".join(str(n) for n in range(1, count + 1))
 
 
 def deep_derivations():
@@ -125,8 +131,15 @@ def deep_derivations():
     yield f"derivation {derivation}", f"{derivation}\n"
 
 
+def shared_types(count):
+    """Each name takes the one before it twice, so that types have exponentially many letters; the last phrase has no typing."""
+    front = "TRUTH AND " + " AND ".join(f"a{n} a{n - 1} a{n - 1}" for n in range(1, count + 1)) + " AND "
+    yield f"formula {front}[p p]", f"NoTyping({len(front)})"
+
+
 def deep_calls():
     """Pairs of a program's name and its calls, each with its answer."""
     yield "term_calls", [*deep_forms(), *deep_terms(), *deep_normal_forms(), *many_premises()]
-    yield "proof_calls", [*deep_proofs(), *many_branches(5_000), *long_path(16)]
+    yield "proof_calls", [*deep_proofs(), *many_branches(5_000), *long_path(80_000)]
     yield "deduction_calls", list(deep_derivations())
+    yield "formula_calls", list(shared_types(120))
