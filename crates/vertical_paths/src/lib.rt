@@ -2,6 +2,6 @@
 #![tactic(auto)]
 
 pub mod matings;
-mod partners;
+pub mod partners;
 mod prefixes;
 mod walk;
