@@ -1,5 +1,0 @@
-pub mod Links
-pub mod Places
-pub mod Discharging
-pub mod Walks
-pub mod Deducing

@@ -1,0 +1,9 @@
+pub mod Opens
+pub mod Covering
+pub mod Cases
+pub mod Duties
+pub mod Fronts
+pub mod Reaching
+pub mod Stacks
+pub mod States
+pub mod Reading
