@@ -1,19 +1,19 @@
 -- A hypothesis more, what lines say then, and where a variable is selected.
 use Rattle.std.proofs.Common.{◌≡◌, ℕ, List, [], ◌∷◌, ◌++◌, Bool, true, false, not, Some, refl, sym, ◌∙◌, subst, ap}
-use Rattle.std.specs.Prelude.{All, Contains, slice_get}
+use Rattle.std.specs.Prelude.{Contains, slice_get}
 use Rattle.std.proofs.lemmas.List.{append-nil, map-append}
-use Rattle.std.proofs.lemmas.List.Elements.{All-cons, All-weaker, All-contains_itself}
+use Rattle.std.proofs.lemmas.List.Elements.{All-cons}
 use Rattle.hol_terms.specs.Terms.{Term}
 use Rattle.hol_terms.specs.FreeVariables.{IsFree}
 use Rattle.expansion_tree.specs.Standing.{Selection}
-use Rattle.dependency.proofs.Elements.{Contains-first, Contains-later, where_contained}
+use Rattle.dependency.proofs.Elements.{Contains-first, where_contained}
 use Rattle.dependency.specs.Nesting.{AreSelections}
 use Rattle.nd_rules.specs.Lines.{DeductionLine}
 use Rattle.nd_steps.specs.Deductions.{IsDeduction, Assumes, Proves, AreAssumptions, Grows}
 use Rattle.nd_steps.proofs.Growing.{assumptions_stay, assumes_one, free_in_none_stays, assumes_proves}
 use Rattle.refutations.specs.Opens.{said, OpenNode, at_node}
 use Rattle.refutations.specs.Cases.{leaves_of, IsUnassumed, IsUnsaid}
-use Rattle.refutations.proofs.Replacing.{proves_says, says_one}
+use Rattle.refutations.proofs.Saying.{proves_says, says_one}
 use Rattle.refutations.proofs.Descending.{free_in_said}
 
 -- nothing was added
@@ -50,9 +50,6 @@ more_unassumed old new hyps h a s grown assumptions assumed none not_free =
     All-cons (λ n. (formula : Term) → Assumes new n formula → IsFree s.variable.0 s.variable.1 formula → ⊥) h hyps
     (λ formula here used. not_free (subst (λ (t : Term). IsFree s.variable.0 s.variable.1 t) (assumes_one new h formula a here assumed) used))
     (free_in_none_stays old new hyps s.variable.0 s.variable.1 grown assumptions none)
-
-pub wider : (hyps : List ℕ) (h : ℕ) → All (Contains (h ∷ hyps)) hyps
-wider hyps h = All-weaker (Contains hyps) (Contains (h ∷ hyps)) (λ n there. Contains-later h hyps n there) hyps (All-contains_itself hyps)
 
 -- the new hypothesis proves its formula
 pub hypothesis_proves : (lines : List DeductionLine) (hyps : List ℕ) (h : ℕ) (a : Term) → IsDeduction lines → Assumes lines h a → Proves lines h (h ∷ hyps) a

@@ -26,7 +26,8 @@ use Rattle.refutations.specs.declared.nodes.Place.{Place}
 use Rattle.refutations.specs.Opens.{said, Says, OpenNode, Open, node_of, within, times_inside, gives_cases, leaf_total, branch_leaf_total, occurrence_total, branch_occurrence_total, place_below, place_past, place_in_branch, terms_below, IsPartAt, StandsAt, HasLine}
 use Rattle.refutations.specs.Covering.{ConstantCovered, CompoundCovered, Covers, CoversBranches, IsNodeCovered, IsCovered}
 use Rattle.refutations.specs.Cases.{HasTurnFrom, IsUnsaid, first_occurrence, WaitsFrom}
-use Rattle.refutations.proofs.Replacing.{all_in_front, all_behind, proves_says, says_one}
+use Rattle.refutations.proofs.Replacing.{all_in_front, all_behind}
+use Rattle.refutations.proofs.Saying.{proves_says, said_read}
 
 -- the node with another line
 abbrev pub node_below : Bool → ExpansionTree → ℕ → Place → OpenNode
@@ -92,10 +93,6 @@ mutual
 
 -- what a line says of a formula
 
-pub said_one : (p : Bool) (a b : Term) → said p a ≡ said p b → a ≡ b
-said_one true a b e = cc
-said_one false a b e = e
-
 pub free_in_said : (n : List ℕ) (s : SimpleType) (p : Bool) (a : Term) → IsFree n s (said p a) → IsFree n s a
 free_in_said n s true a h = elim h [ inl none ↦ absurd none | inr there ↦ there ]
 free_in_said n s false a h = h
@@ -130,7 +127,7 @@ sides_covered Imp false left right e h k = cc
 -- the formula of a covered node is the one that its line proves
 pub covered_formula : (lines : List DeductionLine) (hyps found : List ℕ) (n : OpenNode) (b : Term) → Proves lines n.line hyps (said n.positive b) → (c : IsNodeCovered lines found n) → c.formula ≡ b
 covered_formula lines hyps found n b p c =
-    said_one n.positive c.formula b (says_one lines n.line (said n.positive c.formula) (said n.positive b) c.says (proves_says lines n.line hyps (said n.positive b) p))
+    said_read lines n.line n.positive b c.formula (proves_says lines n.line hyps (said n.positive b) p) c.says
 
 pub covered_stands : (lines : List DeductionLine) (hyps found : List ℕ) (n : OpenNode) (b : Term) → Proves lines n.line hyps (said n.positive b) → (c : IsNodeCovered lines found n) → Stands n.positive b n.tree c.standing
 covered_stands lines hyps found n b p c = subst (λ (a : Term). Stands n.positive a n.tree c.standing) (covered_formula lines hyps found n b p c) c.stands
@@ -285,8 +282,7 @@ branches_covered lines found p ty b line no_branch place ns h says covered = (no
 branches_covered lines found p ty b line (branch u t bs) place ns h says covered =
     let c = covered.0 in
     let whole : quantified (expanding p c.ty) c.ty c.body ≡ quantified (expanding p ty) ty b =
-    said_one p (quantified (expanding p c.ty) c.ty c.body) (quantified (expanding p ty) ty b)
-    (says_one lines line (said p (quantified (expanding p c.ty) c.ty c.body)) (said p (quantified (expanding p ty) ty b)) c.says says) in
+    said_read lines line p (quantified (expanding p ty) ty b) (quantified (expanding p c.ty) c.ty c.body) says c.says in
     let body : c.body ≡ b = cc in
     let rest = branches_covered lines found p ty b line bs (place_past t (place_in_branch place)) h.5 h.6 says covered.1 in
     let leaves_there : leaf_count c.standing ≡ leaf_total t = leaf_count-stands t p c.lower c.standing c.stands in (

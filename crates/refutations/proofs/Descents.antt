@@ -1,7 +1,6 @@
 -- The first step at a node that gives no cases, and how the case goes on from there.
 use Rattle.std.proofs.Common.{◌≡◌, ◌≤◌, ℕ, ◌+◌, ◌*◌, ◌^◌, List, [], ◌∷◌, ◌++◌, length, Bool, false, not, append-nil, refl, sym, subst, ap, arith}
 use Rattle.std.specs.Borrow.{Bor}
-use Rattle.std.specs.List.{AllByRecursion}
 use Rattle.hol_terms.specs.Terms.{SimpleType, Term, free}
 use Rattle.hol_terms.specs.Indices.{instance_of}
 use Rattle.expansion_tree.specs.declared.trees.Op.{Op}
@@ -12,16 +11,16 @@ use Rattle.nd_rules.specs.Lines.{DeductionLine}
 use Rattle.nd_steps.specs.Deductions.{IsDeduction, Assumes, Proves, AreAssumptions, Grows}
 use Rattle.refutations.specs.declared.nodes.Place.{Place}
 use Rattle.refutations.specs.declared.nodes.Node.{Node}
-use Rattle.refutations.specs.declared.nodes.Front.{Front}
 use Rattle.refutations.specs.declared.duties.Duty.TheVariants.{Choice}
 use Rattle.refutations.specs.declared.cases.Case.{Case}
 use Rattle.refutations.specs.Opens.{said, Says, Open, at_node, plain_node, open_node, below, all_unwritten, gives_cases, place_below, place_past}
 use Rattle.refutations.specs.Cases.{IsCase}
 use Rattle.refutations.specs.Reaching.{Reaches}
-use Rattle.refutations.specs.Stacks.{stacked, IsStack}
-use Rattle.refutations.specs.States.{IsSplit, IsState, opens_of, GoesOn}
-use Rattle.refutations.proofs.Saying.{proves_says, says_one, said_one}
-use Rattle.refutations.proofs.Stepping.{node_below, moved, negation_step, sides_step, selection_step}
+use Rattle.refutations.specs.States.{IsState, opens_of, GoesOn}
+use Rattle.refutations.proofs.Alike.{IsAlike, alike_opens, alike_state}
+use Rattle.refutations.proofs.Replacing.{moved}
+use Rattle.refutations.proofs.Saying.{proves_says, says_one, said_read}
+use Rattle.refutations.proofs.Stepping.{node_below, negation_step, sides_step, selection_step}
 use Rattle.refutations.proofs.Spreading.{goes_on_by}
 
 one_negated : (a b : Term) → negation_of a ≡ negation_of b → a ≡ b
@@ -36,22 +35,6 @@ node_and_below (connective_node op t u) = refl
 node_and_below (selection_node name t) = refl
 node_and_below (expansion_node bs) = refl
 
-module _ (g : AcceptedProof) (lines : List DeductionLine) (case next : Case) (splits : next.splits ≡ case.splits) (fronts : next.fronts ≡ case.fronts) (held : next.held ≡ case.held) where
-  -- what is open doesn't depend on the duties
-  pub same_opens : (order : List ℕ) (done : ℕ) → opens_of order done next ≡ opens_of order done case
-  same_opens order done = λ i. opens_of order done (record { splits = splits i; fronts = fronts i; held = held i; duties = next.duties })
-
-  pub same_state : (hyps : List ℕ) (others : List Open) (done : ℕ) → IsState g lines case hyps others done → IsState g lines next hyps others done
-  same_state hyps others done state = record {
-    stack = subst IsStack (sym splits) state.stack;
-    splits = subst (λ s. AllByRecursion IsSplit (stacked s)) (sym splits) state.splits;
-    keys = subst (λ f. AllByRecursion (λ (entry : ℕ × Front). entry.1.node.place.occurrences ≡ entry.0) f.entries) (sym fronts) state.keys;
-    is_case =
-        let P : List Open → Type 0 = λ opens. IsCase g lines hyps (others ++ opens) next.held.entries done in
-        let Q : List (ℕ × ℕ) → Type 0 = λ entries. IsCase g lines hyps (others ++ opens_of g.order done case) entries done in
-        subst P (sym (same_opens g.order done)) (subst Q (ap (λ h. h.entries) (sym held)) state.is_case);
-  }
-
 module _ (g : AcceptedProof) (lines lines' : List DeductionLine) (case : Case) (hyps : List ℕ) (node : Node) (others : List Open) (done : ℕ) (state : IsState g lines case hyps (open_node node ∷ others) done) (deduction : IsDeduction lines') where
   abbrev rest : List Open
   rest = others ++ opens_of g.order done case
@@ -60,7 +43,7 @@ module _ (g : AcceptedProof) (lines lines' : List DeductionLine) (case : Case) (
   here = all_unwritten (open_node node ∷ rest)
 
   -- the same case with what is open in the node's place
-  replaced_by : (hyps' : List ℕ) (ys : List Open) → IsCase g lines' hyps' (ys ++ others ++ opens_of g.order done case) case.held.entries done → IsState g lines' case hyps' (ys ++ others) done
+  pub replaced_by : (hyps' : List ℕ) (ys : List Open) → IsCase g lines' hyps' (ys ++ others ++ opens_of g.order done case) case.held.entries done → IsState g lines' case hyps' (ys ++ others) done
   replaced_by hyps' ys is_case = record { stack = state.stack; splits = state.splits; keys = state.keys; is_case = is_case }
 
   -- the line of a negation, of a compound, of a selection
@@ -92,7 +75,7 @@ module _ (g : AcceptedProof) (lines lines' : List DeductionLine) (case : Case) (
       let reached = reaches hyps parent.0 state.is_case.assumptions parent.1 in
       let y : Open = at_node (node_below (not node.positive) t m place) in
       let proves : (b : Term) → Says lines node.line (said node.positive (negation_of b)) → Proves lines' m hyps (said (not node.positive) b) =
-      λ b says. subst (λ (a : Term). Proves lines' m hyps (said (not node.positive) a)) (one_negated parent.0 b (said_one node.positive (negation_of parent.0) (negation_of b) (says_one lines node.line (said node.positive (negation_of parent.0)) (said node.positive (negation_of b)) (proves_says lines node.line hyps (said node.positive (negation_of parent.0)) parent.1) says))) reached.proves in
+      λ b says. subst (λ (a : Term). Proves lines' m hyps (said (not node.positive) a)) (one_negated parent.0 b (said_read lines node.line node.positive (negation_of b) (negation_of parent.0) says (proves_says lines node.line hyps (said node.positive (negation_of parent.0)) parent.1))) reached.proves in
       let P : Place → Type 0 = λ p. IsCase g lines' hyps (at_node (node_below (not node.positive) t m p) ∷ rest) case.held.entries done in
       let is_case : P place = subst P (sym placed) (negation_step g lines lines' hyps (plain_node node) t m rest case.held.entries done state.is_case is reached.grown deduction proves) in
       let size : below (plain_tree node.tree.now) ≡ node_count t = ap below is in
@@ -128,13 +111,14 @@ module _ (g : AcceptedProof) (lines lines' : List DeductionLine) (case : Case) (
       → Grows lines lines' → length lines' ≡ length lines + 1 → next.splits ≡ case.splits → next.fronts ≡ case.fronts → next.held ≡ case.held → next.duties.items ≡ case.duties.items ++ Choice node.positive node.line h name ∷ []
       → GoesOn g lines case lines' next hyps (at_node (node_below node.positive t h place) ∷ others) done (24 * 2 ^ here) here
   selection_on accepted name t h place next is placed assumes grown one splits fronts held pushed =
+      let alike : IsAlike case next = record { cells = ap (λ s. s.cells.items) splits; top = ap (λ s. s.top) splits; fronts = ap (λ f. f.entries) fronts; held = ap (λ h. h.entries) held } in
       let y : Place → Open = λ p. at_node (node_below node.positive t h p) in
       let step = selection_step g accepted lines lines' hyps (plain_node node) name.now t h rest case.held.entries done state.is_case is grown deduction assumes in
       let P : Place → Type 0 = λ p. IsCase g lines' (h ∷ hyps) (y p ∷ rest) case.held.entries done in
       let is_case : P place = subst P (sym placed) step.0 in
       let size : below (plain_tree node.tree.now) ≡ node_count t = ap below is in
       let many : all_unwritten (y place ∷ others ++ opens_of g.order done next) ≡ all_unwritten (y place ∷ rest) =
-      ap (λ (opens : List Open). all_unwritten (y place ∷ others ++ opens)) (same_opens g lines case next splits fronts held g.order done) in
+      ap (λ (opens : List Open). all_unwritten (y place ∷ others ++ opens)) (alike_opens g.order done case next alike) in
       goes_on_by g lines lines' case next hyps (y place ∷ others) done here (Choice node.positive node.line h name ∷ []) (h ∷ hyps) pushed (step.1, refl)
-      (same_state g lines' case next splits fronts held (h ∷ hyps) (y place ∷ others) done (replaced_by (h ∷ hyps) (y place ∷ []) is_case)) (omega (arith, one))
+      (alike_state g lines' case next (h ∷ hyps) (y place ∷ others) done alike (replaced_by (h ∷ hyps) (y place ∷ []) is_case)) (omega (arith, one))
       (omega (arith, size, many, node_and_below t))

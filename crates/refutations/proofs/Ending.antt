@@ -1,5 +1,5 @@
 -- How cases are closed, one after the other.
-use Rattle.std.proofs.Common.{◌≡◌, ◌≤◌, ℕ, ◌+◌, ◌*◌, List, [], ◌∷◌, ◌++◌, length, length-append, append-nil, map, Bool, true, false, not, Option, Some, None, refl, sym, ◌∙◌, subst, ap, arith}
+use Rattle.std.proofs.Common.{◌≡◌, ◌≤◌, ℕ, ◌+◌, ◌*◌, List, [], ◌∷◌, ◌++◌, length, length-append, append-nil, map, Option, Some, None, refl, sym, ◌∙◌, subst, ap, arith}
 use Rattle.std.specs.Prelude.{Result, Ok, Err, IfOk, OnOk, IsSome}
 use Rattle.std.specs.List.{AllByRecursion}
 use Rattle.hol_terms.specs.Terms.{Term, constant, falsehood}
@@ -39,9 +39,6 @@ goes_on_here g lines case hyps done state = record { added = []; all_are = sym (
 
 pub more_here : (case : Case) → HasMore case case
 more_here case = record { splits = ([], sym (append-nil case.splits.cells.items)); fronts = ([], sym (append-nil case.fronts.entries)); held = ([], sym (append-nil case.held.entries)) }
-
-pub grows_here : (lines : List DeductionLine) → Grows lines lines
-grows_here lines = ([], sym (append-nil lines))
 
 -- the top of the stack, taken off
 module _ (g : AcceptedProof) (lines : List DeductionLine) (case : Case) (hyps : List ℕ) (done : ℕ) (popped : Stack) (node : Node) (stack : IsStack popped) (top : stacked case.splits ≡ node ∷ stacked popped) where
@@ -103,7 +100,3 @@ spread_weaker g old new case other next hyps others done budget most more (Some 
 
 pub one_op : (op op' : Op) (t u t' u' : ExpansionTree) → connective_node op t u ≡ connective_node op' t' u' → op ≡ op'
 one_op op op' t u t' u' e = cc
-
-pub false_of_not : (b : Bool) → not b ≡ true → b ≡ false
-false_of_not true e = cc
-false_of_not false e = refl

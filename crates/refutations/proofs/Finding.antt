@@ -23,10 +23,10 @@ use Rattle.refutations.specs.Fronts.{is_waiting, terms_of}
 use Rattle.refutations.specs.Stacks.{stacked, IsStack}
 use Rattle.refutations.specs.States.{IsSplit, IsState, IsSpread, opens_of}
 use Rattle.refutations.proofs.Descending.{length-occurrences, within_first}
-use Rattle.refutations.proofs.Replacing.{all_joined, all_in_front, all_behind, times_inside-append}
+use Rattle.refutations.proofs.Replacing.{all_joined, all_in_front, all_behind, times_inside-append, moved}
 use Rattle.refutations.proofs.Rooms.{unwritten_both}
 use Rattle.refutations.proofs.Spreading.{goes_on_freely}
-use Rattle.refutations.proofs.Stepping.{expansion_step, moved}
+use Rattle.refutations.proofs.Stepping.{expansion_step}
 use Rattle.refutations.proofs.Turns.{item_there, all_at, IsBetween, tree_between, occurrence_item}
 use Rattle.refutations.proofs.Waiting.{found_more, is_waiting_from}
 

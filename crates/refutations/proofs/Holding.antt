@@ -33,8 +33,8 @@ use Rattle.refutations.specs.Fronts.{terms_of}
 use Rattle.refutations.specs.Stacks.{stacked, IsStack}
 use Rattle.refutations.specs.States.{IsSplit, IsState, IsSpread, opens_of}
 use Rattle.refutations.proofs.Assuming.{item_of}
-use Rattle.refutations.proofs.Descending.{leaf_there, known_node, node_below, said_one}
-use Rattle.refutations.proofs.Replacing.{proves_says, says_one}
+use Rattle.refutations.proofs.Descending.{leaf_there, known_node, node_below}
+use Rattle.refutations.proofs.Saying.{proves_says, said_read}
 use Rattle.refutations.proofs.Spreading.{goes_on_freely, closed_by}
 use Rattle.refutations.proofs.Stepping.{held_step, kept_step, mated_opposed, constant_step}
 
@@ -240,5 +240,5 @@ module _ (g : AcceptedProof) (lines : List DeductionLine) (case : Case) (hyps : 
       let own = says_constant is in
       let given : Term = said node.positive (truth_value own.0) in
       let one : truth_value own.0 ≡ truth_value v =
-      said_one node.positive (truth_value own.0) (truth_value v) (says_one lines node.line given (said node.positive (truth_value v)) (proves_says lines node.line hyps given own.1) says) in
+      said_read lines node.line node.positive (truth_value v) (truth_value own.0) says (proves_says lines node.line hyps given own.1) in
       subst (λ (a : Term). Proves lines node.line hyps (said node.positive a)) (one ∙ ap truth_value same) own.1

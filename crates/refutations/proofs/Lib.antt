@@ -1,5 +1,6 @@
 pub mod NormalVariables
 pub mod Saying
+pub mod Alike
 pub mod Replacing
 pub mod Descending
 pub mod Assuming

@@ -11,6 +11,7 @@ use Rattle.expansion_tree.specs.Matrices.{joined}
 use Rattle.expansion_tree.specs.Standing.{Standing, at_leaf, at_constant, at_negation, at_connective, at_selection, at_expansion, StandingBranches, none_standing, branch_standing, leaf_count, constant_paths, compound_paths, paths_from, branch_paths_from}
 use Rattle.vertical_paths.specs.Matings.{is_on, is_closed, Spans}
 use Rattle.refutations.specs.Covering.{ConstantCovered, CompoundCovered, Covers, CoversBranches}
+use Rattle.refutations.proofs.Replacing.{all_joined}
 
 -- all leaves of some path are found
 abbrev pub SomeFound : List ℕ → List (List ℕ) → Type 0
@@ -30,13 +31,9 @@ found_back found (p ∷ ps) qs h = inr (found_back found ps qs h)
 
 -- and in two that are joined
 
-both_found : (found p q : List ℕ) → AllByRecursion (Contains found) p → AllByRecursion (Contains found) q → AllByRecursion (Contains found) (p ++ q)
-both_found found [] q here there = there
-both_found found (n ∷ p) q here there = (here.0, both_found found p q here.1 there)
-
 found_after : (found p : List ℕ) (qs : List (List ℕ)) → AllByRecursion (Contains found) p → SomeFound found qs → SomeFound found (map (λ q. p ++ q) qs)
 found_after found p [] here h = absurd h
-found_after found p (q ∷ qs) here (inl h) = inl (both_found found p q here h)
+found_after found p (q ∷ qs) here (inl h) = inl (all_joined (Contains found) p q here h)
 found_after found p (q ∷ qs) here (inr h) = inr (found_after found p qs here h)
 
 found_joined : (found : List ℕ) (ps qs : List (List ℕ)) → SomeFound found ps → SomeFound found qs → SomeFound found (joined ps qs)

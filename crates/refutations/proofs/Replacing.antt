@@ -1,7 +1,6 @@
 -- In a case, one node or term that is open may be replaced by what comes of it.
-use Rattle.std.proofs.Common.{◌≡◌, ◌≤◌, ℕ, ◌+◌, List, [], ◌∷◌, ◌++◌, false, Some, sym, ◌∙◌, subst, ap, arith}
+use Rattle.std.proofs.Common.{◌≡◌, ◌≤◌, ℕ, ◌+◌, List, [], ◌∷◌, ◌++◌, false, arith}
 use Rattle.std.specs.Prelude.{All, Contains}
-use Rattle.std.specs.Option.{option_map}
 use Rattle.std.specs.List.{AllByRecursion}
 use Rattle.hol_terms.specs.Terms.{Term}
 use Rattle.expansion_tree.specs.Standing.{Selection, quantified, expanding}
@@ -10,9 +9,10 @@ use Rattle.exp_check.specs.Accepted.{AcceptedProof}
 use Rattle.nd_rules.specs.Lines.{DeductionLine}
 use Rattle.nd_steps.specs.Deductions.{IsDeduction, Proves, AreAssumptions, Grows}
 use Rattle.nd_steps.proofs.Growing.{proves_stays, proves_from_more}
-use Rattle.refutations.specs.Opens.{said, Says, Open, at_node, at_term, node_of, inside, times_inside, HasLine}
+use Rattle.refutations.specs.Opens.{said, Open, at_node, at_term, node_of, inside, times_inside, HasLine}
 use Rattle.refutations.specs.Covering.{IsCovered}
 use Rattle.refutations.specs.Cases.{leaves_of, HoldsLeaf, IsUnassumed, IsUnsaid, IsNew, WaitsFrom, IsCase}
+use Rattle.refutations.proofs.Saying.{said_before}
 
 -- lists
 
@@ -54,20 +54,7 @@ times_inside-moved k xs ys zs =
     let four = times_inside-append k xs ys in
     omega (arith, one, two, three, four)
 
--- what lines say
-
-pub proves_says : (lines : List DeductionLine) (n : ℕ) (hyps : List ℕ) (a : Term) → Proves lines n hyps a → Says lines n a
-proves_says lines n hyps a p = ap (option_map (λ (l : DeductionLine). l.formula)) p.found ∙ ap Some p.says
-
-pub says_one : (lines : List DeductionLine) (n : ℕ) (a b : Term) → Says lines n a → Says lines n b → a ≡ b
-says_one lines n a b h g = let both : Some a ≡ Some b = sym h ∙ g in cc
-
--- a line that was there says what it said
-pub says_back : (old new : List DeductionLine) (n : ℕ) (hyps : List ℕ) (a b : Term) → Grows old new → Proves old n hyps a → Says new n b → Says old n b
-says_back old new n hyps a b grown p said_now =
-    let same : a ≡ b = says_one new n a b (proves_says new n hyps a (proves_stays old new n hyps a grown p)) said_now in
-    subst (λ (t : Term). Says old n t) same (proves_says old n hyps a p)
-
+-- what was proved is proved as further lines and hypotheses come
 pub proves_on : (old new : List DeductionLine) (n : ℕ) (hyps more : List ℕ) (a : Term) → Grows old new → All (Contains more) hyps → Proves old n hyps a → Proves new n more a
 proves_on old new n hyps more a grown wider p = proves_from_more new n hyps more a wider (proves_stays old new n hyps a grown p)
 
@@ -100,7 +87,7 @@ module _ (g : AcceptedProof) where
   pub unsaid_on : (old new : List DeductionLine) (hyps : List ℕ) (s : Selection) → Grows old new → (o : Open) → HasLine g old hyps o → IsUnsaid old s o → IsUnsaid new s o
   unsaid_on old new hyps s grown o h unsaid a says used =
       let p = line_proves old hyps o h in
-      unsaid a (says_back old new (node_of o).line hyps p.0 a grown p.1 says) used
+      unsaid a (said_before old new (node_of o).line hyps p.0 a grown p.1 says) used
 
   -- what is covered by the lines later is so before
   pub covered_back : (old new : List DeductionLine) (hyps found : List ℕ) → Grows old new → (o : Open) → HasLine g old hyps o → IsCovered new found o → IsCovered old found o
@@ -108,7 +95,7 @@ module _ (g : AcceptedProof) where
     formula = c.formula;
     standing = c.standing;
     stands = c.stands;
-    says = says_back old new n.line hyps (said n.positive h.formula) (said n.positive c.formula) grown h.proves c.says;
+    says = said_before old new n.line hyps (said n.positive h.formula) (said n.positive c.formula) grown h.proves c.says;
     covers = c.covers;
   }
   covered_back old new hyps found grown (at_term u n) h c = record {
@@ -118,13 +105,13 @@ module _ (g : AcceptedProof) where
     standing = c.standing;
     normal = c.normal;
     stands = c.stands;
-    says = says_back old new n.line hyps (said n.positive (quantified (expanding n.positive h.ty) h.ty h.body)) (said n.positive (quantified (expanding n.positive c.ty) c.ty c.body)) grown h.proves c.says;
+    says = said_before old new n.line hyps (said n.positive (quantified (expanding n.positive h.ty) h.ty h.body)) (said n.positive (quantified (expanding n.positive c.ty) c.ty c.body)) grown h.proves c.says;
     covers = c.covers;
   }
 
   -- What is open may be put in another order.
-  pub put_in_front : (lines : List DeductionLine) (hyps : List ℕ) (xs ys zs : List Open) (held : List (ℕ × ℕ)) (done : ℕ) → IsCase g lines hyps (xs ++ ys ++ zs) held done → IsCase g lines hyps (ys ++ xs ++ zs) held done
-  put_in_front lines hyps xs ys zs held done case = record {
+  pub moved : (lines : List DeductionLine) (hyps : List ℕ) (xs ys zs : List Open) (held : List (ℕ × ℕ)) (done : ℕ) → IsCase g lines hyps (xs ++ ys ++ zs) held done → IsCase g lines hyps (ys ++ xs ++ zs) held done
+  moved lines hyps xs ys zs held done case = record {
     deduction = case.deduction;
     assumptions = case.assumptions;
     lines_are = all_moved (HasLine g lines hyps) xs ys zs case.lines_are;

@@ -23,7 +23,7 @@ use Rattle.nd_steps.proofs.Growing.{assumptions_stay, proves_stays}
 use Rattle.nd_steps.proofs.Numbering.{found_in}
 use Rattle.refutations.specs.Opens.{said, Says, gives_cases}
 use Rattle.refutations.specs.Reaching.{Reaches}
-use Rattle.refutations.proofs.Saying.{says_one, said_one}
+use Rattle.refutations.proofs.Saying.{said_read}
 
 -- formulas
 
@@ -77,10 +77,6 @@ right_follows Imp true b c both l all = λ h. All-head (Holds l) (negation_of (c
 right_follows Imp false b c both l all = cc
 
 -- what was read from a line
-
--- the formula of which it says so
-pub said_read : (lines : List DeductionLine) (n : ℕ) (p : Bool) (a t : Term) → Says lines n (said p a) → Says lines n (said p t) → t ≡ a
-said_read lines n p a t says read = said_one p t a (says_one lines n (said p t) (said p a) read says)
 
 -- a line that denies a formula
 pub denies : (lines : List DeductionLine) (n : ℕ) (p : Bool) (a : Term) → p ≡ true → Says lines n (said p a) → Says lines n (negation_of a)

@@ -115,7 +115,3 @@ alone_then (Err e) g old mid new case between next y h grown = tt
 pub on_ok_grows : {T E : Type 0} (r : Result T E) (old mid new : List DeductionLine) → Grows old mid → OnOk r (Grows mid new) → OnOk r (Grows old new)
 on_ok_grows (Ok x) old mid new g h = grows_on old mid new g h
 on_ok_grows (Err e) old mid new g h = tt
-
-pub on_ok_more : {T E : Type 0} (r : Result T E) (old mid new : Case) → HasMore old mid → OnOk r (HasMore mid new) → OnOk r (HasMore old new)
-on_ok_more (Ok x) old mid new g h = has_more_then old mid new g h
-on_ok_more (Err e) old mid new g h = tt

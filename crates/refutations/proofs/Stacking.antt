@@ -2,6 +2,7 @@
 use Rattle.std.proofs.Common.{◌≡◌, ℕ, ◌+◌, ◌-◌, ◌<◌, ◌≤◌, ◌==◌, List, [], ◌∷◌, ◌++◌, length, reverse, take, drop, get_or, refl, sym, ◌∙◌, ap, subst, arith, false}
 use Rattle.std.proofs.lemmas.Bool.{eq-eqb, ne_eqb}
 use Rattle.std.proofs.lemmas.List.{reverse-append, length-reverse, take-append-drop, take_more, length-append, length-take-le}
+use Rattle.vertical_paths.proofs.Chains.{reverse-push}
 use Rattle.refutations.specs.declared.nodes.Node.{Node}
 use Rattle.refutations.specs.declared.stacks.Cell.{Cell}
 use Rattle.refutations.specs.Stacks.{chain_in, AreCells}
@@ -9,9 +10,6 @@ use Rattle.refutations.specs.Stacks.{chain_in, AreCells}
 -- the nodes from the cell of a number on, of cells in the order in which they came
 abbrev pub chain : List Cell → ℕ → List Node
 chain cells at = chain_in (reverse cells) at
-
-reverse-push : {A : Type 0} → (xs : List A) (x : A) → reverse (xs ++ x ∷ []) ≡ x ∷ reverse xs
-reverse-push xs x = reverse-append xs (x ∷ [])
 
 -- what older cells say stays as newer ones come
 chain_in-older : (newer older : List Cell) (at : ℕ) → at ≤ length older → chain_in (newer ++ older) at ≡ chain_in older at
@@ -42,9 +40,6 @@ chain_in-none (cell ∷ older) = rw (ne_eqb 0 (length older + 1) (λ e. absurd (
 
 pub chain-none : (cells : List Cell) → chain cells 0 ≡ []
 chain-none cells = chain_in-none (reverse cells)
-
-pub AreCells-push : (cells : List Cell) (cell : Cell) → AreCells (reverse cells) → cell.rest ≤ length cells → AreCells (reverse (cells ++ cell ∷ []))
-AreCells-push cells cell h rest = rw (reverse-push cells cell) (rw (length-reverse cells) rest, h)
 
 AreCells-older : (newer older : List Cell) → AreCells (newer ++ older) → AreCells older
 AreCells-older [] older h = h

@@ -1,5 +1,5 @@
 -- The first case of a refutation, and the term whose turn it is.
-use Rattle.std.proofs.Common.{◌≡◌, ◌≤◌, ℕ, ◌+◌, List, [], ◌∷◌, Bool, true, false, Some, refl, ◌∙◌, subst, ap, arith, inl, inr}
+use Rattle.std.proofs.Common.{◌≡◌, ◌≤◌, ℕ, ◌+◌, List, [], ◌∷◌, true, Some, refl, ◌∙◌, subst, ap, arith, inl, inr}
 use Rattle.std.specs.Prelude.{Contains, slice_get}
 use Rattle.std.specs.List.{AllByRecursion}
 use Rattle.std.proofs.lemmas.List.Elements.{All-from_recursion, All-contains_itself, All-contains}
@@ -18,12 +18,14 @@ use Rattle.nd_rules.specs.Lines.{DeductionLine}
 use Rattle.nd_steps.specs.Deductions.{IsDeduction, Assumes, Proves, Grows}
 use Rattle.nd_steps.proofs.Growing.{assumptions_stay, assumes_one, assumes_proves, free_in_none_stays}
 use Rattle.refutations.specs.declared.nodes.Place.{Place}
-use Rattle.refutations.specs.Opens.{said, Says, OpenNode, Open, at_node, at_term, IsPartAt, StandsAt, HasNodeLine, HasTermLine, times_inside}
-use Rattle.refutations.specs.Covering.{IsNodeCovered, IsTermCovered}
-use Rattle.refutations.specs.Cases.{IsUnsaid, IsCase}
+use Rattle.refutations.specs.Opens.{said, Says, OpenNode, Open, at_node, at_term, IsPartAt, StandsAt, HasNodeLine, HasTermLine, HasLine, times_inside}
+use Rattle.refutations.specs.Covering.{IsNodeCovered, IsTermCovered, IsCovered}
+use Rattle.refutations.specs.Cases.{HoldsLeaf, IsUnsaid, IsCase}
 use Rattle.refutations.proofs.Accepting.{accepted_standing, accepted_stands, accepted_selections, accepted_new, accepted_covered}
+use Rattle.refutations.proofs.Descending.{free_in_said, said_has_free}
 use Rattle.refutations.proofs.NormalVariables.{not_free_in_normal}
-use Rattle.refutations.proofs.Saying.{proves_says, assumes_says, says_one, said_one, leaves_stay, lines_stay, unsaid_stays, all_covered_before}
+use Rattle.refutations.proofs.Replacing.{all_weaker, all_weaker_by, has_line_on, holds_leaf_on, unsaid_on, covered_back}
+use Rattle.refutations.proofs.Saying.{proves_says, assumes_says, says_one, said_read}
 use Rattle.refutations.proofs.Turns.{within_once, below_later, terms_wait_from, unused_in_turn}
 use Rattle.refutations.proofs.Waiting.{IsTermFrom}
 
@@ -36,16 +38,6 @@ part_of_itself : {A : Type 0} (whole part : List A) → whole ≡ part → IsPar
 part_of_itself whole part same i x e =
     let there : 0 + i ≡ i = omega arith in
     ap (slice_get whole) there ∙ ap (λ l. slice_get l i) same ∙ e
-
--- what a line says of a formula has the formula's free variables, and no others
-free_where_said : (name : List ℕ) (ty : SimpleType) (p : Bool) (a : Term) → IsFree name ty (said p a) → IsFree name ty a
-free_where_said name ty true a (inl h) = absurd h
-free_where_said name ty true a (inr h) = h
-free_where_said name ty false a h = h
-
-said_where_free : (name : List ℕ) (ty : SimpleType) (p : Bool) (a : Term) → IsFree name ty a → IsFree name ty (said p a)
-said_where_free name ty true a h = inr h
-said_where_free name ty false a h = h
 
 module _ (g : AcceptedProof) (accepted : IsAccepted g) where
   -- The hypothesis that the long normal form is false begins the first case, where nothing is held.
@@ -85,11 +77,11 @@ module _ (g : AcceptedProof) (accepted : IsAccepted g) where
       }
 
       not_free : (x : Selection) → Contains g.fitted.selection_list x → IsFree x.variable.0 x.variable.1 (negation_of normal) → ⊥
-      not_free x there used = accepted_new g accepted normal x is_normal there (free_where_said x.variable.0 x.variable.1 true normal used)
+      not_free x there used = accepted_new g accepted normal x is_normal there (free_in_said x.variable.0 x.variable.1 true normal used)
 
       whole : (found : List ℕ) → IsNodeCovered lines found root → is_closed g.mating found ≡ true
       whole found c =
-          let same : c.formula ≡ normal = said_one true c.formula normal (says_one lines h (negation_of c.formula) (negation_of normal) c.says (assumes_says lines h (negation_of normal) assumes)) in
+          let same : c.formula ≡ normal = said_read lines h true normal c.formula (assumes_says lines h (negation_of normal) assumes) c.says in
           accepted_covered g accepted normal c.standing found is_normal (subst (λ (a : Term). Stands true a g.fitted.tree c.standing) same c.stands) c.covers
 
   -- Where only terms are open, whose turns are later, the place of the order moves on.
@@ -114,16 +106,16 @@ module _ (g : AcceptedProof) (accepted : IsAccepted g) where
   turn lines lines' hyps u n m rest held done case later here grown deduction proves = record {
     deduction = deduction;
     assumptions = assumptions_stay lines lines' hyps grown case.assumptions;
-    lines_are = (record { formula = term.lower; standing = term.standing; stands_at = stands_there; proves = proved }, lines_stay g lines lines' hyps grown rest case.lines_are.1);
-    held_are = leaves_stay g lines lines' hyps held grown case.held_are;
+    lines_are = (record { formula = term.lower; standing = term.standing; stands_at = stands_there; proves = proved }, all_weaker (HasLine g lines hyps) (HasLine g lines' hyps) (has_line_on g lines lines' hyps hyps grown (All-contains_itself hyps)) rest case.lines_are.1);
+    held_are = all_weaker (HoldsLeaf g lines hyps) (HoldsLeaf g lines' hyps) (holds_leaf_on g lines lines' hyps hyps grown (All-contains_itself hyps)) held case.held_are;
     unmated = case.unmated;
     once = case.once;
     fresh = λ x there in_opens. let new = case.fresh x there in_opens in record {
       unassumed = free_in_none_stays lines lines' hyps x.variable.0 x.variable.1 grown case.assumptions new.unassumed;
-      unsaid = (unsaid_here x there in_opens new.unsaid.0, unsaid_stays g lines lines' hyps grown x rest case.lines_are.1 new.unsaid.1);
+      unsaid = (unsaid_here x there in_opens new.unsaid.0, all_weaker_by (HasLine g lines hyps) (IsUnsaid lines x) (IsUnsaid lines' x) (unsaid_on g lines lines' hyps x grown) rest case.lines_are.1 new.unsaid.1);
     };
     waiting = ((λ e low high. below_later g accepted lines hyps u n done e term here (omega (arith, low)) high), terms_wait_from g accepted lines hyps (done + 1) rest case.lines_are.1 later);
-    spanned = λ found leaves_found covered. case.spanned found leaves_found (covered_here found covered.0, all_covered_before g lines lines' hyps grown found rest case.lines_are.1 covered.1);
+    spanned = λ found leaves_found covered. case.spanned found leaves_found (covered_here found covered.0, all_weaker_by (HasLine g lines hyps) (IsCovered lines' found) (IsCovered lines found) (covered_back g lines lines' hyps found grown) rest case.lines_are.1 covered.1);
   }
     where
       below : OpenNode
@@ -156,17 +148,17 @@ module _ (g : AcceptedProof) (accepted : IsAccepted g) where
           let name : List ℕ = x.variable.0 in
           let ty : SimpleType = x.variable.1 in
           let same : a ≡ said n.positive term.lower = says_one lines' m a (said n.positive term.lower) said_there (proves_says lines' m hyps (said n.positive term.lower) proved) in
-          let in_lower : IsFree name ty term.lower = free_where_said name ty n.positive term.lower (subst (IsFree name ty) same used) in
+          let in_lower : IsFree name ty term.lower = free_in_said name ty n.positive term.lower (subst (IsFree name ty) same used) in
           not_free_in_normal name ty (instance_of term.body u) term.lower (long_instance_formula term.ty u term.body term.typed term.long) term.normal
           (λ in_instance. elim (free_of_put name ty 0 u term.body in_instance) [
-            | inl in_body ↦ none (said n.positive upper) says (said_where_free name ty n.positive upper (inr in_body))
+            | inl in_body ↦ none (said n.positive upper) says (said_has_free name ty n.positive upper (inr in_body))
             | inr in_term ↦ unused_in_turn g accepted lines hyps u n done x rest term case.lines_are.1 later here there in_opens in_term.1
           ]) in_lower
 
       covered_here : (found : List ℕ) → IsNodeCovered lines' found below → IsTermCovered lines found u n
       covered_here found c =
           let same : c.formula ≡ term.lower =
-          said_one n.positive c.formula term.lower (says_one lines' m (said n.positive c.formula) (said n.positive term.lower) c.says (proves_says lines' m hyps (said n.positive term.lower) proved)) in
+          said_read lines' m n.positive term.lower c.formula (proves_says lines' m hyps (said n.positive term.lower) proved) c.says in
           record {
             ty = term.ty;
             body = term.body;

@@ -20,16 +20,14 @@ use Rattle.refutations.specs.Opens.{said, Says, OpenNode, Open, at_node, inside,
 use Rattle.refutations.specs.Covering.{Covers, IsNodeCovered, IsCovered}
 use Rattle.refutations.specs.Cases.{leaves_of, HoldsLeaf, IsUnassumed, IsUnsaid, IsNew, WaitsFrom, IsCase}
 use Rattle.refutations.specs.Duties.{IsChoice}
-use Rattle.refutations.proofs.Assuming.{not_grown, not_twice, item_of, held_with, one_node, more_assumptions, more_unassumed, wider, hypothesis_proves, unsaid_at}
-use Rattle.refutations.proofs.Replacing.{all_joined, all_in_front, all_behind, all_weaker, proves_says, holds_leaf_on, put_in_front, replaced}
+use Rattle.refutations.proofs.Assuming.{not_grown, not_twice, item_of, held_with, one_node, more_assumptions, more_unassumed, hypothesis_proves, unsaid_at}
+use Rattle.refutations.proofs.Replacing.{all_joined, all_in_front, all_behind, all_weaker, holds_leaf_on, replaced}
+use Rattle.refutations.proofs.Saying.{proves_says}
+use Rattle.refutations.proofs.Uniting.{held_behind}
 pub use Rattle.refutations.proofs.Descending.{node_below}
 use Rattle.refutations.proofs.Descending.{known_node, within_part, within_parts, within_first, within_later, free_in_said, said_has_free, waits_within, cases_covered, sides_covered, covered_stands, negation_parts, connective_parts, selection_parts, expansion_parts, terms_have_line, terms_inside, terms_unsaid, terms_turn, negation_covered, selection_covered, compound_covered, expansion_covered, leaf_covered, constant_covered, leaf_there}
 
 module _ (g : AcceptedProof) where
-  -- What is open may be put in another order.
-  pub moved : (lines : List DeductionLine) (hyps : List ℕ) (xs ys zs : List Open) (held : List (ℕ × ℕ)) (done : ℕ) → IsCase g lines hyps (xs ++ ys ++ zs) held done → IsCase g lines hyps (ys ++ xs ++ zs) held done
-  moved lines hyps xs ys zs held done case = put_in_front g lines hyps xs ys zs held done case
-
   -- Of what is open, one is replaced by others.
   pub advance : (lines lines' : List DeductionLine) (hyps hyps' : List ℕ) (x : Open) (ys rest : List Open) (held : List (ℕ × ℕ)) (done : ℕ)
       → IsCase g lines hyps (x ∷ rest) held done → Grows lines lines' → IsDeduction lines' → AreAssumptions lines' hyps' → All (Contains hyps') hyps
@@ -211,7 +209,7 @@ module _ (g : AcceptedProof) where
       let left : OpenNode = node_below (left_polarity op p) t h (place_below x.place) in
       let assumed = assumes b c says in
       let lower : Proves lines' h (h ∷ hyps) (said (left_polarity op p) b) = hypothesis_proves lines' hyps h (said (left_polarity op p) b) deduction assumed in
-      node_step lines lines' hyps (h ∷ hyps) y left rest held done case grown deduction (more_assumptions lines lines' hyps h (said (left_polarity op p) b) grown case.assumptions assumed) (wider hyps h)
+      node_step lines lines' hyps (h ∷ hyps) y left rest held done case grown deduction (more_assumptions lines lines' hyps h (said (left_polarity op p) b) grown case.assumptions assumed) (held_behind h hyps)
       (record { formula = b; standing = parts.3; stands_at = parts.4; proves = lower }) (omega arith) (omega arith) (omega arith) (omega arith)
       (λ s among there new.
       let not_free : IsFree s.variable.0 s.variable.1 b → ⊥ = λ used. new.unsaid.0 (said p whole) says (said_has_free s.variable.0 s.variable.1 p whole (inl (inr used))) in (
@@ -241,7 +239,7 @@ module _ (g : AcceptedProof) where
       let right : OpenNode = node_below p u h (place_past t (place_below x.place)) in
       let assumed = assumes b c says in
       let lower : Proves lines' h (h ∷ hyps) (said p c) = hypothesis_proves lines' hyps h (said p c) deduction assumed in
-      node_step lines lines' hyps (h ∷ hyps) y right rest held done case grown deduction (more_assumptions lines lines' hyps h (said p c) grown case.assumptions assumed) (wider hyps h)
+      node_step lines lines' hyps (h ∷ hyps) y right rest held done case grown deduction (more_assumptions lines lines' hyps h (said p c) grown case.assumptions assumed) (held_behind h hyps)
       (record { formula = c; standing = parts.5; stands_at = parts.6; proves = lower }) (omega arith) (omega arith) (omega arith) (omega arith)
       (λ s among there new.
       let not_free : IsFree s.variable.0 s.variable.1 c → ⊥ = λ used. new.unsaid.0 (said p whole) says (said_has_free s.variable.0 s.variable.1 p whole (inr used)) in (
@@ -288,7 +286,7 @@ module _ (g : AcceptedProof) where
             let once = case.once s.node in
             omega (arith, here, later, once, there)
       ] in (
-        node_step lines lines' hyps (h ∷ hyps) y below rest held done case grown deduction (more_assumptions lines lines' hyps h (said p instance) grown case.assumptions assumed) (wider hyps h)
+        node_step lines lines' hyps (h ∷ hyps) y below rest held done case grown deduction (more_assumptions lines lines' hyps h (said p instance) grown case.assumptions assumed) (held_behind h hyps)
             (record { formula = instance; standing = parts.5; stands_at = parts.6; proves = lower }) (omega arith) (omega arith) (omega arith) (omega arith)
             (λ s among there other. (
               more_unassumed lines lines' hyps h (said p instance) s grown case.assumptions assumed other.unassumed (λ used. apart s among there other (free_in_said s.variable.0 s.variable.1 p instance used)),

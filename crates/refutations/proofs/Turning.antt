@@ -5,14 +5,12 @@ use Rattle.std.specs.List.{AllByRecursion, filter}
 use Rattle.std.specs.Map.{lookup}
 use Rattle.std.proofs.Math.Nat.{lt_of_not-le}
 use Rattle.std.proofs.lemmas.Bool.{eq-eqb, eqb-true}
-use Rattle.std.proofs.lemmas.List.{map-append}
-use Rattle.std.proofs.lemmas.List.Elements.{filter-append}
 use Rattle.std.proofs.lemmas.Map.{NonePasses}
 use Rattle.hol_terms.specs.Terms.{SimpleType, Term, plain_term}
 use Rattle.hol_terms.specs.Indices.{instance_of}
 use Rattle.expansion_tree.specs.Occurrences.{Occurrence, occurrences_of}
 use Rattle.expansion_tree.specs.Standing.{quantified, expanding, negation_of, IsNormalFormula}
-use Rattle.expansion_tree.specs.Trees.{ExpansionTree, leaf_node, constant_node, negation_node, connective_node, selection_node, expansion_node, node_count, plain_tree}
+use Rattle.expansion_tree.specs.Trees.{node_count, plain_tree}
 use Rattle.dependency.specs.Dependencies.{occurrence_at}
 use Rattle.exp_check.specs.Accepted.{AcceptedProof, IsAccepted}
 use Rattle.nd_rules.specs.Lines.{DeductionLine}
@@ -27,22 +25,14 @@ use Rattle.refutations.specs.Reaching.{Reaches}
 use Rattle.refutations.specs.Stacks.{stacked, chain_in, AreCells}
 use Rattle.refutations.specs.States.{IsSplit, IsState, opens_of, room, GoesOn}
 use Rattle.refutations.proofs.Descending.{within_first}
-use Rattle.refutations.proofs.Replacing.{all_behind, times_inside-append}
+use Rattle.refutations.proofs.Descents.{node_and_below}
+use Rattle.refutations.proofs.Replacing.{all_behind, times_inside-append, moved}
 use Rattle.refutations.proofs.Rooms.{power_most, unwritten_both}
 use Rattle.refutations.proofs.Saying.{proves_says, says_one}
 use Rattle.refutations.proofs.Spreading.{goes_on_by, goes_on_freely}
 use Rattle.refutations.proofs.Starting.{root_place, start, pass, turn}
-use Rattle.refutations.proofs.Stepping.{moved, none_open}
-use Rattle.refutations.proofs.Waiting.{IsTermFrom, terms_wait, one_found, none_found, none_left}
-
--- a tree has its own node above those below it
-pub below_less : (t : ExpansionTree) → below t < node_count t
-below_less leaf_node = omega arith
-below_less constant_node = omega arith
-below_less (negation_node t) = omega arith
-below_less (connective_node op t u) = omega arith
-below_less (selection_node name t) = omega arith
-below_less (expansion_node bs) = omega arith
+use Rattle.refutations.proofs.Stepping.{none_open}
+use Rattle.refutations.proofs.Waiting.{IsTermFrom, terms_wait, terms_apart, first_waits, one_found, none_found, none_left}
 
 -- none of these was found at the occurrence
 abbrev pub NoneAt : ℕ → List (ℕ × Front) → Type 0
@@ -76,20 +66,11 @@ found_at e (x ∷ entries) f h = go (nat_eq e x.0) refl h (found_at e entries f)
           none_before = ((λ same. let yes : nat_eq e x.0 ≡ true = eq-eqb e x.0 (sym same) in absurd cc), found.none_before);
         }
 
--- the open terms among those of two lists
-terms_apart : (order : List ℕ) (done : ℕ) (xs ys : List (ℕ × Front)) → terms_of order done (xs ++ ys) ≡ terms_of order done xs ++ terms_of order done ys
-terms_apart order done xs ys =
-    let kept : ℕ × Front → Bool = λ (e : ℕ × Front). is_waiting order done e.0 in
-    ap (map (λ (e : ℕ × Front). open_term e.1)) (filter-append kept xs ys) ∙ map-append (λ (e : ℕ × Front). open_term e.1) (filter kept xs) (filter kept ys)
-
 -- the occurrence whose turn it is waits
 waits_now : (order : List ℕ) (done e : ℕ) → slice_get order done ≡ Some e → is_waiting order done e ≡ true
 waits_now [] done e here = absurd cc
 waits_now (x ∷ order) zero e here = let same : x ≡ e = cc in rw (eq-eqb x e same) refl
 waits_now (x ∷ order) (suc done) e here = waits_now order done e here
-
-first_waits : (order : List ℕ) (done e : ℕ) (f : Front) (rest : List (ℕ × Front)) → is_waiting order done e ≡ true → terms_of order done ((e, f) ∷ rest) ≡ open_term f ∷ terms_of order done rest
-first_waits order done e f rest h = rw h refl
 
 -- the node at which an occurrence begins
 abbrev first_node : Option Occurrence → ℕ
@@ -153,7 +134,7 @@ module _ (g : AcceptedProof) (accepted : IsAccepted g) (lines : List DeductionLi
       inside_one same line =
           let n = x.1.node in
           let first : n.place.node ≡ p.first = ap first_node (sym line.occurs ∙ ap (occurrence_at (occurrences_of g.fitted.tree)) (keys.0 ∙ same) ∙ is) in
-          let some = below_less (plain_tree n.tree.now) in
+          let some = node_and_below (plain_tree n.tree.now) in
           ap (λ k. within k n.place.node (node_count (plain_tree n.tree.now))) (sym first) ∙ within_first n.place.node (node_count (plain_tree n.tree.now)) (omega (arith, some))
 
       go : (b : Bool) → is_waiting g.order done x.0 ≡ b → AllByRecursion (HasLine g lines hyps) (open_terms (cond b (x ∷ kept) kept)) → times_inside p.first (open_terms (cond b (x ∷ kept) kept)) ≡ 0
@@ -177,7 +158,7 @@ module _ (g : AcceptedProof) (accepted : IsAccepted g) (lines : List DeductionLi
       let term : HasTermLine g lines hyps (plain_term f.term.now) (plain_node f.node) = lines_are.0 in
       let p : Occurrence = record { first = f.node.place.node; last = f.node.place.node + node_count (plain_tree f.node.tree.now) - 1; term = plain_term f.term.now } in
       let there : occurrence_at (occurrences_of g.fitted.tree) e ≡ Some p = ap (occurrence_at (occurrences_of g.fitted.tree)) (sym key.0) ∙ term.occurs in
-      let some = below_less (plain_tree f.node.tree.now) in
+      let some = node_and_below (plain_tree f.node.tree.now) in
       let inside_here : inside p.first (open_term f) ≡ 1 = within_first f.node.place.node (node_count (plain_tree f.node.tree.now)) (omega (arith, some)) in
       let once = parted.once p.first in
       let all = times_inside-append p.first front (open_term f ∷ back) in
@@ -224,7 +205,7 @@ module _ (g : AcceptedProof) (accepted : IsAccepted g) (lines : List DeductionLi
         } in
         let old_opens = ap all_unwritten (only_terms done ∙ it.opens_are) ∙ unwritten_both it.before (open_term f ∷ it.after) in
         let new_opens = ap all_unwritten (only_terms (done + 1) ∙ it.later_are) ∙ unwritten_both it.before it.after in
-        let less = below_less (plain_tree f.node.tree.now) in
+        let less = node_and_below (plain_tree f.node.tree.now) in
         let few = reached.few in
         goes_on_by g lines lines' case case hyps (open_node node ∷ []) (done + 1) (all_unwritten (opens_of g.order done case)) [] hyps (sym (append-nil case.duties.items)) refl next (omega (arith, few)) (omega (arith, old_opens, new_opens, less))
 
@@ -233,10 +214,6 @@ module _ (g : AcceptedProof) (accepted : IsAccepted g) (lines : List DeductionLi
 pub ok_both : {X E : Type 0} (r : Result X E) (P Q : X → Type 0) (R : Type 0) → ((x : X) → R → P x → Q x) → OnOk r R → IfOk r P → IfOk r Q
 ok_both (Ok x) P Q R f h k = f x h k
 ok_both (Err e) P Q R f h k = tt
-
-pub ok_on : {X E : Type 0} (r : Result X E) (P Q : Type 0) → (P → Q) → OnOk r P → OnOk r Q
-ok_on (Ok x) P Q f h = f h
-ok_on (Err e) P Q f h = tt
 
 -- a case in which nothing was found
 module _ (g : AcceptedProof) (case : Case) (cells : case.splits.cells.items ≡ []) (fronts : case.fronts.entries ≡ []) where
@@ -263,7 +240,7 @@ module _ (g : AcceptedProof) (case : Case) (cells : case.splits.cells.items ≡ 
   -- it is closed within the room of the tree
   pub first_reaches : (old new : List DeductionLine) (n : ℕ) (hyps : List ℕ) (a : Term) (root : Node) → Reaches (room (open_node root ∷ opens_of g.order 0 case)) old new n hyps a → Reaches (24 * 2 ^ node_count (plain_tree root.tree.now)) old new n hyps a
   first_reaches old new n hyps a root h =
-      let less = below_less (plain_tree root.tree.now) in
+      let less = node_and_below (plain_tree root.tree.now) in
       let none = ap all_unwritten nothing_found in
       let most = power_most (below (plain_tree root.tree.now) + all_unwritten (opens_of g.order 0 case)) (node_count (plain_tree root.tree.now)) (omega (arith, less, none)) in
       let few = h.few in

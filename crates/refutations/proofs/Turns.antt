@@ -1,6 +1,6 @@
 -- The turns of the occurrences in the order: that of an open term comes before those of the occurrences below it, and a variable that
 -- is free in a term is selected only below occurrences whose turns come before.
-use Rattle.std.proofs.Common.{◌≡◌, ◌≤◌, ◌<◌, ℕ, zero, suc, ◌+◌, ◌-◌, List, [], ◌∷◌, ◌++◌, length, length-append, Bool, true, false, Some, refl, sym, ◌∙◌, subst, ap, ap₂, arith, inl, inr, ◌⊎◌}
+use Rattle.std.proofs.Common.{◌≡◌, ◌≤◌, ◌<◌, ℕ, zero, suc, ◌+◌, ◌-◌, List, [], ◌∷◌, length, Bool, true, false, Some, refl, sym, ◌∙◌, subst, ap, arith, inl, inr, ◌⊎◌, eq-or-lt_of_le}
 use Rattle.std.specs.Prelude.{Contains, slice_get, nat_lt, if◌then◌else◌}
 use Rattle.std.specs.List.{AllByRecursion}
 use Rattle.std.proofs.lemmas.Bool.{ne_eqb, ltb-true, ltb-false}
@@ -11,20 +11,17 @@ use Rattle.expansion_tree.specs.Occurrences.{Occurrence, occurrences_from, branc
 use Rattle.expansion_tree.specs.Standing.{Selection}
 use Rattle.expansion_tree.proofs.Counting.{node_count-positive}
 use Rattle.dependency.specs.Dependencies.{occurrence_at, Below}
+use Rattle.dependency.proofs.Elements.{where_contained}
 use Rattle.dependency.proofs.Nested.{occurrence_within}
 use Rattle.exp_check.specs.Accepted.{AcceptedProof, IsAccepted}
 use Rattle.nd_rules.specs.Lines.{DeductionLine}
-use Rattle.refutations.specs.Opens.{OpenNode, Open, at_node, at_term, within, inside, times_inside, occurrence_total, branch_occurrence_total, HasTermLine, HasLine}
+use Rattle.refutations.specs.Opens.{OpenNode, Open, at_node, at_term, within, inside, times_inside, occurrence_total, HasTermLine, HasLine}
 use Rattle.refutations.specs.Cases.{HasTurnFrom, WaitsFrom}
+use Rattle.refutations.proofs.Descending.{length-occurrences}
+use Rattle.refutations.proofs.Replacing.{all_joined, all_weaker}
 use Rattle.refutations.proofs.Waiting.{IsTermFrom}
 
--- an element of a list stands at some place
-pub place_in : {A : Type 0} (xs : List A) (x : A) → Contains xs x → (i : ℕ) × (slice_get xs i ≡ Some x)
-place_in [] x (k, within, e) = absurd (omega (arith, within))
-place_in (y ∷ ys) x (zero, within, e) = (zero, ap Some e)
-place_in (y ∷ ys) x (suc k, within, e) = let rest = place_in ys x (k, omega (arith, within), e) in (suc rest.0, rest.1)
-
--- and at each place below the length stands an element
+-- at each place below the length stands an element
 pub item_there : {A : Type 0} (xs : List A) (k : ℕ) → k < length xs → (x : A) × (slice_get xs k ≡ Some x)
 item_there [] k h = absurd (omega (arith, h))
 item_there (x ∷ xs) zero h = (x, refl)
@@ -35,40 +32,14 @@ all_at P [] i x h e = absurd (cc)
 all_at P (y ∷ ys) zero x h e = let same : y ≡ x = cc in subst P same h.0
 all_at P (y ∷ ys) (suc i) x h e = all_at P ys i x h.1 e
 
-all_more : {A : Type 0} (P Q : A → Type 0) → ((x : A) → P x → Q x) → (xs : List A) → AllByRecursion P xs → AllByRecursion Q xs
-all_more P Q f [] h = tt
-all_more P Q f (x ∷ xs) h = (f x h.0, all_more P Q f xs h.1)
-
-all_both : {A : Type 0} (P : A → Type 0) (xs ys : List A) → AllByRecursion P xs → AllByRecursion P ys → AllByRecursion P (xs ++ ys)
-all_both P [] ys h k = k
-all_both P (x ∷ xs) ys h k = (h.0, all_both P xs ys h.1 k)
-
 -- the occurrences of a tree
-
--- as many as are counted
-mutual
-  tree_total : (at : ℕ) (t : ExpansionTree) → length (occurrences_from at t) ≡ occurrence_total t
-  tree_total at leaf_node = refl
-  tree_total at constant_node = refl
-  tree_total at (negation_node t) = tree_total (at + 1) t
-  tree_total at (connective_node op t u) =
-      length-append (occurrences_from (at + 1) t) (occurrences_from (at + 1 + node_count t) u) ∙ ap₂ (λ (x y : ℕ). x + y) (tree_total (at + 1) t) (tree_total (at + 1 + node_count t) u)
-  tree_total at (selection_node name t) = tree_total (at + 1) t
-  tree_total at (expansion_node bs) = branches_total (at + 1) bs
-
-  branches_total : (at : ℕ) (bs : ExpansionBranches) → length (branch_occurrences_from at bs) ≡ branch_occurrence_total bs
-  branches_total at no_branch = refl
-  branches_total at (branch u t bs) =
-      let both : length (occurrences_from at t ++ branch_occurrences_from (at + node_count t) bs) ≡ occurrence_total t + branch_occurrence_total bs =
-      length-append (occurrences_from at t) (branch_occurrences_from (at + node_count t) bs) ∙ ap₂ (λ (x y : ℕ). x + y) (tree_total at t) (branches_total (at + node_count t) bs) in
-      omega (arith, both)
 
 -- the branch has nodes from low to below high
 abbrev pub IsBetween : ℕ → ℕ → Occurrence → Type 0
 IsBetween low high o = (low ≤ o.first) × (o.last < high)
 
 between_more : (low high low' high' : ℕ) (xs : List Occurrence) → low' ≤ low → high ≤ high' → AllByRecursion (IsBetween low high) xs → AllByRecursion (IsBetween low' high') xs
-between_more low high low' high' xs l h k = all_more (IsBetween low high) (IsBetween low' high') (λ o q. (omega (arith, l, q), omega (arith, h, q))) xs k
+between_more low high low' high' xs l h k = all_weaker (IsBetween low high) (IsBetween low' high') (λ o q. (omega (arith, l, q), omega (arith, h, q))) xs k
 
 mutual
   pub tree_between : (at : ℕ) (t : ExpansionTree) → AllByRecursion (IsBetween (at + 1) (at + node_count t)) (occurrences_from at t)
@@ -77,7 +48,7 @@ mutual
   tree_between at (negation_node t) =
       between_more (at + 1 + 1) (at + 1 + node_count t) (at + 1) (at + (node_count t + 1)) (occurrences_from (at + 1) t) (omega arith) (omega arith) (tree_between (at + 1) t)
   tree_between at (connective_node op t u) =
-      all_both (IsBetween (at + 1) (at + (node_count t + node_count u + 1))) (occurrences_from (at + 1) t) (occurrences_from (at + 1 + node_count t) u)
+      all_joined (IsBetween (at + 1) (at + (node_count t + node_count u + 1))) (occurrences_from (at + 1) t) (occurrences_from (at + 1 + node_count t) u)
       (between_more (at + 1 + 1) (at + 1 + node_count t) (at + 1) (at + (node_count t + node_count u + 1)) (occurrences_from (at + 1) t) (omega arith) (omega arith) (tree_between (at + 1) t))
       (between_more (at + 1 + node_count t + 1) (at + 1 + node_count t + node_count u) (at + 1) (at + (node_count t + node_count u + 1)) (occurrences_from (at + 1 + node_count t) u) (omega arith) (omega arith)
       (tree_between (at + 1 + node_count t) u))
@@ -92,7 +63,7 @@ mutual
       let some = node_count-positive t in
       let whole : ℕ = at + (node_count t + branch_node_count bs) in (
         (omega arith, omega (arith, some)),
-        all_both (IsBetween at whole) (occurrences_from at t) (branch_occurrences_from (at + node_count t) bs)
+        all_joined (IsBetween at whole) (occurrences_from at t) (branch_occurrences_from (at + node_count t) bs)
             (between_more (at + 1) (at + node_count t) at whole (occurrences_from at t) (omega arith) (omega arith) (tree_between at t))
             (between_more (at + node_count t) (at + node_count t + branch_node_count bs) at whole (branch_occurrences_from (at + node_count t) bs) (omega arith) (omega arith) (branches_between (at + node_count t) bs)),
       )
@@ -131,14 +102,14 @@ module _ (g : AcceptedProof) (accepted : IsAccepted g) where
   turn_of : (e : ℕ) (o : Occurrence) → occurrence_at (occurrences_of g.fitted.tree) e ≡ Some o → (i : ℕ) × (slice_get g.order i ≡ Some e)
   turn_of e o is =
       let number = occurrence_within (occurrences_of g.fitted.tree) e o is in
-      place_in g.order e (accepted.ordered.all e number.0 number.1)
+      where_contained g.order e (accepted.ordered.all e number.0 number.1)
 
   -- those counted behind the occurrence of an open term lie below it
   below_term : (lines : List DeductionLine) (hyps : List ℕ) (u : Term) (n : OpenNode) (e : ℕ) → HasTermLine g lines hyps u n → n.place.occurrences < e → e ≤ n.place.occurrences + occurrence_total n.tree
       → Below (occurrences_of g.fitted.tree) n.place.occurrences e
   below_term lines hyps u n e h low high =
       let k : ℕ = e - (n.place.occurrences + 1) in
-      let many = tree_total n.place.node n.tree in
+      let many = length-occurrences n.place.node n.tree in
       let found = item_there (occurrences_from n.place.node n.tree) k (omega (arith, low, high, many)) in
       let between = all_at (IsBetween (n.place.node + 1) (n.place.node + node_count n.tree)) (occurrences_from n.place.node n.tree) k found.0 (tree_between n.place.node n.tree) found.1 in
       record {
@@ -160,14 +131,8 @@ module _ (g : AcceptedProof) (accepted : IsAccepted g) where
   -- an open term whose turn comes from then on waits with all that is below it
   term_waits : (lines : List DeductionLine) (hyps : List ℕ) (done : ℕ) (o : Open) → HasLine g lines hyps o → IsTermFrom g.order done o → WaitsFrom g.order done o
   term_waits lines hyps done (at_node n) h later = absurd later
-  term_waits lines hyps done (at_term u n) h later = λ e low high j there. go e low high j there (first_or_later n.place.occurrences e low)
+  term_waits lines hyps done (at_term u n) h later = λ e low high j there. go e low high j there (eq-or-lt_of_le low)
     where
-      first_or_later : (a b : ℕ) → a ≤ b → (a ≡ b) ⊎ (a < b)
-      first_or_later zero zero h = inl refl
-      first_or_later zero (suc b) h = inr (omega arith)
-      first_or_later (suc a) zero h = absurd (omega (arith, h))
-      first_or_later (suc a) (suc b) h = elim (first_or_later a b (omega (arith, h))) [ inl e ↦ inl (ap suc e) | inr l ↦ inr (omega (arith, l)) ]
-
       go : (e : ℕ) → n.place.occurrences ≤ e → e ≤ n.place.occurrences + occurrence_total n.tree → (j : ℕ) → slice_get g.order j ≡ Some e → (n.place.occurrences ≡ e) ⊎ (n.place.occurrences < e) → done ≤ j
       go e low high j there (inl same) = later j (there ∙ ap Some (sym same))
       go e low high j there (inr more) =

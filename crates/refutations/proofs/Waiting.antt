@@ -77,8 +77,8 @@ is_waiting_from order done e there turn =
     list_any_at (λ k. k == e) (drop done order) (there.0 - done) e less (eq-eqb (get_or (drop done order) (there.0 - done) e) e read)
 
 -- the open terms among those of two lists
-apart : (order : List ℕ) (done : ℕ) (xs ys : List (ℕ × Front)) → terms_of order done (xs ++ ys) ≡ terms_of order done xs ++ terms_of order done ys
-apart order done xs ys =
+pub terms_apart : (order : List ℕ) (done : ℕ) (xs ys : List (ℕ × Front)) → terms_of order done (xs ++ ys) ≡ terms_of order done xs ++ terms_of order done ys
+terms_apart order done xs ys =
     let kept : ℕ × Front → Bool = λ (e : ℕ × Front). is_waiting order done e.0 in
     ap (map (λ (e : ℕ × Front). open_term e.1)) (filter-append kept xs ys) ∙ map-append (λ (e : ℕ × Front). open_term e.1) (filter kept xs) (filter kept ys)
 
@@ -90,7 +90,7 @@ all_kept p (x ∷ xs) h = rw h.0 (ap (λ ys. x ∷ ys) (all_kept p xs h.1))
 -- terms that are found later
 pub found_more : (order : List ℕ) (done : ℕ) (entries more : List (ℕ × Front)) → AllByRecursion (λ (e : ℕ × Front). is_waiting order done e.0 ≡ true) more → terms_of order done (entries ++ more) ≡ terms_of order done entries ++ map (λ (e : ℕ × Front). open_term e.1) more
 found_more order done entries more waiting =
-    apart order done entries more ∙ ap (λ es. terms_of order done entries ++ map (λ (e : ℕ × Front). open_term e.1) es) (all_kept (λ (e : ℕ × Front). is_waiting order done e.0) more waiting)
+    terms_apart order done entries more ∙ ap (λ es. terms_of order done entries ++ map (λ (e : ℕ × Front). open_term e.1) es) (all_kept (λ (e : ℕ × Front). is_waiting order done e.0) more waiting)
 
 -- as the turn of an occurrence goes by at which no term was found, the same terms wait
 same_kept : (order : List ℕ) (done e : ℕ) (entries : List (ℕ × Front)) → slice_get order done ≡ Some e → AllByRecursion (λ (x : ℕ × Front). (x.0 ≡ e) → ⊥) entries
@@ -106,8 +106,8 @@ pub none_found : (order : List ℕ) (done e : ℕ) (entries : List (ℕ × Front
 none_found order done e entries here none = ap (λ n. terms_of order n entries) (add-one done) ∙ ap (map (λ (x : ℕ × Front). open_term x.1)) (same_kept order done e entries here none)
 
 -- a term that waits is open
-first_kept : (order : List ℕ) (done e : ℕ) (f : Front) (rest : List (ℕ × Front)) → is_waiting order done e ≡ true → terms_of order done ((e, f) ∷ rest) ≡ open_term f ∷ terms_of order done rest
-first_kept order done e f rest h = rw h refl
+pub first_waits : (order : List ℕ) (done e : ℕ) (f : Front) (rest : List (ℕ × Front)) → is_waiting order done e ≡ true → terms_of order done ((e, f) ∷ rest) ≡ open_term f ∷ terms_of order done rest
+first_waits order done e f rest h = rw h refl
 
 -- and one that doesn't wait isn't
 first_left : (order : List ℕ) (done e : ℕ) (f : Front) (rest : List (ℕ × Front)) → is_waiting order done e ≡ false → terms_of order done ((e, f) ∷ rest) ≡ terms_of order done rest
@@ -121,9 +121,9 @@ pub one_found : (order : List ℕ) (done e : ℕ) (before after : List (ℕ × F
 one_found order done e before after f here once none_before none_after =
     let waits : is_waiting order done e ≡ true = waits_here order done e e here ∙ ap (λ b. b || is_waiting order (suc done) e) (eq-eqb e e refl) in
     let gone : is_waiting order (done + 1) e ≡ false = ap (λ n. is_waiting order n e) (add-one done) ∙ over order done e once here in (
-      apart order done before ((e, f) ∷ after) ∙ ap (λ os. terms_of order done before ++ os) (first_kept order done e f after waits)
+      terms_apart order done before ((e, f) ∷ after) ∙ ap (λ os. terms_of order done before ++ os) (first_waits order done e f after waits)
           ∙ ap₂ (λ os ps. os ++ open_term f ∷ ps) (sym (none_found order done e before here none_before)) (sym (none_found order done e after here none_after)),
-      apart order (done + 1) before ((e, f) ∷ after) ∙ ap (λ os. terms_of order (done + 1) before ++ os) (first_left order (done + 1) e f after gone),
+      terms_apart order (done + 1) before ((e, f) ∷ after) ∙ ap (λ os. terms_of order (done + 1) before ++ os) (first_left order (done + 1) e f after gone),
     )
 
 -- in the end none is open

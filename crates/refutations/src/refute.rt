@@ -22,7 +22,7 @@ use crate::lines::{expanded_line, suppose_side};
 use crate::nodes::{Node, Place};
 use crate::parts::said;
 use crate::reading::{Reading, read};
-use crate::spread::spread;
+use crate::spread::{mated_line, spread};
 use exp_check::accepted::Accepted;
 use expansion_tree::parts::left_polarity;
 use expansion_tree::trees::{Op, Tree};
@@ -87,6 +87,15 @@ fn side_node<'a>(
             line,
             place: place_past(sides.0, place)?,
         })
+    }
+}
+
+/// Whether a side is a leaf, before which so many leaves come, and a leaf is held that is mated with it: it then closes its case at once.
+fn closes_at_once(reading: &Reading<'_>, case: &Case<'_>, side: &Tree, leaves: u64) -> bool {
+    let leaf = leaves.saturating_add(1) as usize;
+    match (side, reading.partners.get(leaf)) {
+        (Tree::Leaf, Some(partners)) => mated_line(partners, &case.held).is_some(),
+        _ => false,
     }
 }
 
@@ -231,7 +240,7 @@ fn take_turn<'a>(
 }
 
 /// Two cases: the first one is closed and taken back, and then the case goes on with the second, whose hypothesis is one more duty.
-/// Where the first one's line doesn't rest on its hypothesis it closes the case.
+/// Where the first one's line doesn't rest on its hypothesis it closes the case. The right side comes first where it closes at once.
 #[cycle(close)]
 #[inline(never)]
 fn split<'a>(
@@ -254,12 +263,14 @@ fn split<'a>(
         unreachable!()
     };
     let sides = (&**t, &**u);
-    let first = side_node(alloc, &mut *deduction, node, *op, sides, true)?;
+    let behind_left = place_past(sides.0, place_below(node.place)?)?;
+    let left = !closes_at_once(reading, case, sides.1, behind_left.leaves);
+    let first = side_node(alloc, &mut *deduction, node, *op, sides, left)?;
     let line = close(alloc, reading, &mut *deduction, &mut *case, first, done)?;
     if !rests_on(deduction, line, first.line) {
         return Ok(Some(line));
     }
-    let second = side_node(alloc, &mut *deduction, node, *op, sides, false)?;
+    let second = side_node(alloc, &mut *deduction, node, *op, sides, !left)?;
     case.duties.push(Duty::Second {
         source: node.line,
         first: Contradiction {

@@ -37,7 +37,7 @@ pub fn gives_cases(op: Op, positive: bool) -> bool
 }
 
 /// The line of a held leaf among the partners, the first one.
-fn mated_line(partners: &[u64], held: &IndexMap<u64, u64>) -> Option<u64>
+pub fn mated_line(partners: &[u64], held: &IndexMap<u64, u64>) -> Option<u64>
     ensures some { IfSome result (λ line. (partner : ℕ) × Contains partners.now partner × Contains held.now.entries (partner, line)) }
     ensures none { IfNone result (AllByRecursion (λ partner. Contains (leaves_of held.now.entries) partner → ⊥) partners.now) }
 {

@@ -5,7 +5,8 @@ use Rattle.hol_terms.specs.Indices.{instance_of}
 use Rattle.expansion_tree.specs.Standing.{quantified, selecting}
 use Rattle.nd_steps.specs.Deductions.{Assumes}
 use Rattle.refutations.specs.Opens.{said, Says}
-use Rattle.refutations.proofs.Speaking.{says_formed, said_read, selected_formed}
+use Rattle.refutations.proofs.Saying.{said_read}
+use Rattle.refutations.proofs.Speaking.{says_formed, selected_formed}
 use Rattle.refutations.proofs.lines.suppose_variable.Goals as goal
 
 pub assume-requires : goal.assume-requires

@@ -1,4 +1,4 @@
-use Rattle.std.proofs.Common.{◌≡◌, ◌∷◌, ◌++◌, ◌+◌, ℕ, [], true, refl, sym, ◌∙◌, ap, ap₂, subst, arith, List}
+use Rattle.std.proofs.Common.{◌≡◌, ◌∷◌, ◌++◌, ◌+◌, ℕ, [], true, not, refl, sym, ◌∙◌, ap, ap₂, subst, arith, List}
 use Rattle.std.specs.Prelude.{Option, Some, None}
 use Rattle.hol_terms.specs.Terms.{Term}
 use Rattle.expansion_tree.specs.declared.trees.Op.{Op}
@@ -10,11 +10,12 @@ use Rattle.refutations.specs.declared.duties.Duty.{Duty}
 use Rattle.refutations.specs.declared.duties.Duty.TheVariants.{Second}
 use Rattle.refutations.specs.Opens.{Open, said, gives_cases, open_node, all_unwritten}
 use Rattle.refutations.specs.States.{IsState, IsSpread, IsSpreadBy, opens_of, room}
+use Rattle.refutations.proofs.Assuming.{not_grown}
 use Rattle.refutations.proofs.Saying.{proves_says}
 use Rattle.refutations.proofs.Spreading.{goes_on_then, has_more_then, on_ok_grows}
 use Rattle.refutations.proofs.Descents.{compound_said}
 use Rattle.refutations.proofs.Splitting.{first_state, first_smaller, second_on, first_closes}
-use Rattle.refutations.proofs.Ending.{closed_reaches, proves_some, goes_on_here, more_here, grows_here, top_opens, top_state, top_split, split_below, ok_closed_then, ok_second_then, spread_weaker, one_op}
+use Rattle.refutations.proofs.Ending.{closed_reaches, proves_some, goes_on_here, more_here, top_opens, top_state, top_split, split_below, ok_closed_then, ok_second_then, spread_weaker, one_op}
 use Rattle.refutations.proofs.refute.+close.Goals as goal
 
 -- closing a case
@@ -68,7 +69,7 @@ reach-returns-in-None-clause-closed t c =
 pub go_on-loop-stepped-init : goal.go_on-loop-stepped-init
 go_on-loop-stepped-init t c = record {
   goes_on = λ hyps state. goes_on_here c.args.reading.now.accepted.now c.args.deduction.now c.args.case.now hyps c.args.done state;
-  grown = grows_here c.args.deduction.now;
+  grown = not_grown c.args.deduction.now;
   more = more_here c.args.case.now;
   deduction = c.requires.state.1.is_case.deduction;
 }
@@ -191,8 +192,8 @@ split-close-requires t c =
     let split = c.requires.split in
     let cases : gives_cases c.in-Bin.op c.args.node.positive ≡ true = subst (λ (op : Op). gives_cases op c.args.node.positive ≡ true) (one_op split.0 c.in-Bin.op split.1 split.2 l r (sym split.3 ∙ is)) split.4 in
     let first = c.in_ok-first.ensures in
-    let here = first_state g c.args.deduction.now c.args.case.now hyps c.args.node c.args.done state c.in-Bin.op l r is cases c.side_node.new.deduction c.in_ok-first.first first.grown first.deduction first.assumes first.positive first.tree first.place in
-    let smaller = first_smaller g c.args.deduction.now c.args.case.now hyps c.args.node c.args.done state c.in-Bin.op l r is cases c.side_node.new.deduction c.in_ok-first.first first.grown first.deduction first.assumes first.positive first.tree first.place in
+    let here = first_state g c.args.deduction.now c.args.case.now hyps c.args.node c.args.done state c.in-Bin.op l r is cases (not c.closes_at_once-left.result) c.side_node.new.deduction c.in_ok-first.first first.grown first.deduction first.assumes first.positive first.tree first.place in
+    let smaller = first_smaller g c.args.deduction.now c.args.case.now hyps c.args.node c.args.done state c.in-Bin.op l r is cases (not c.closes_at_once-left.result) c.side_node.new.deduction c.in_ok-first.first first.grown first.deduction first.assumes first.positive first.tree first.place in
     (omega (arith, c.decreases, smaller), (c.requires.read, (c.in_ok-first.first.line ∷ hyps, here)))
 
 pub split-rests_on-requires : goal.split-rests_on-requires
@@ -206,7 +207,7 @@ split-rests_on-requires t c =
     let split = c.requires.split in
     let cases : gives_cases c.in-Bin.op c.args.node.positive ≡ true = subst (λ (op : Op). gives_cases op c.args.node.positive ≡ true) (one_op split.0 c.in-Bin.op split.1 split.2 l r (sym split.3 ∙ is)) split.4 in
     let first = c.in_ok-first.ensures in
-    let here = first_state g c.args.deduction.now c.args.case.now hyps c.args.node c.args.done state c.in-Bin.op l r is cases c.side_node.new.deduction c.in_ok-first.first first.grown first.deduction first.assumes first.positive first.tree first.place in
+    let here = first_state g c.args.deduction.now c.args.case.now hyps c.args.node c.args.done state c.in-Bin.op l r is cases (not c.closes_at_once-left.result) c.side_node.new.deduction c.in_ok-first.first first.grown first.deduction first.assumes first.positive first.tree first.place in
     let reached = c.in_ok-line.ensures.reaches (c.in_ok-first.first.line ∷ hyps) here in
     proves_some c.close.new.deduction c.in_ok-line.line (c.in_ok-first.first.line ∷ hyps) _ reached.proves
 
@@ -219,9 +220,9 @@ split-returns-then-not-rests_on-clause-spread t c hyps most state strict =
     let split = c.requires.split in
     let cases : gives_cases c.in-Bin.op c.args.node.positive ≡ true = subst (λ (op : Op). gives_cases op c.args.node.positive ≡ true) (one_op split.0 c.in-Bin.op split.1 split.2 l r (sym split.3 ∙ is)) split.4 in
     let first = c.in_ok-first.ensures in
-    let here = first_state g c.args.deduction.now c.args.case.now hyps c.args.node c.args.done state c.in-Bin.op l r is cases c.side_node.new.deduction c.in_ok-first.first first.grown first.deduction first.assumes first.positive first.tree first.place in
+    let here = first_state g c.args.deduction.now c.args.case.now hyps c.args.node c.args.done state c.in-Bin.op l r is cases (not c.closes_at_once-left.result) c.side_node.new.deduction c.in_ok-first.first first.grown first.deduction first.assumes first.positive first.tree first.place in
     let reached = c.in_ok-line.ensures.reaches (c.in_ok-first.first.line ∷ hyps) here in
-    first_closes g c.args.deduction.now c.args.case.now hyps c.args.node c.args.done state c.in-Bin.op l r is cases c.side_node.new.deduction c.close.new.deduction c.close.new.case c.in_ok-first.first c.in_ok-line.line first.grown reached.grown first.one first.tree reached
+    first_closes g c.args.deduction.now c.args.case.now hyps c.args.node c.args.done state c.in-Bin.op l r is cases (not c.closes_at_once-left.result) c.side_node.new.deduction c.close.new.deduction c.close.new.case c.in_ok-first.first c.in_ok-line.line first.grown reached.grown first.one first.tree reached
     (c.rests_on.ensures hyps _ c.if-not-rests_on.true reached.proves) c.in_ok-line.ensures.same.duties
 
 pub split-returns-then-not-rests_on-clause-grown : goal.split-returns-then-not-rests_on-clause-grown
@@ -235,7 +236,7 @@ split-returns-then-not-rests_on-clause-grown t c =
     let split = c.requires.split in
     let cases : gives_cases c.in-Bin.op c.args.node.positive ≡ true = subst (λ (op : Op). gives_cases op c.args.node.positive ≡ true) (one_op split.0 c.in-Bin.op split.1 split.2 l r (sym split.3 ∙ is)) split.4 in
     let first = c.in_ok-first.ensures in
-    let here = first_state g c.args.deduction.now c.args.case.now hyps c.args.node c.args.done state c.in-Bin.op l r is cases c.side_node.new.deduction c.in_ok-first.first first.grown first.deduction first.assumes first.positive first.tree first.place in
+    let here = first_state g c.args.deduction.now c.args.case.now hyps c.args.node c.args.done state c.in-Bin.op l r is cases (not c.closes_at_once-left.result) c.side_node.new.deduction c.in_ok-first.first first.grown first.deduction first.assumes first.positive first.tree first.place in
     let reached = c.in_ok-line.ensures.reaches (c.in_ok-first.first.line ∷ hyps) here in
     grows_on c.args.deduction.now c.side_node.new.deduction c.close.new.deduction first.grown reached.grown
 
@@ -250,7 +251,7 @@ split-side_node-requires-2 t c =
     let split = c.requires.split in
     let cases : gives_cases c.in-Bin.op c.args.node.positive ≡ true = subst (λ (op : Op). gives_cases op c.args.node.positive ≡ true) (one_op split.0 c.in-Bin.op split.1 split.2 l r (sym split.3 ∙ is)) split.4 in
     let first = c.in_ok-first.ensures in
-    let here = first_state g c.args.deduction.now c.args.case.now hyps c.args.node c.args.done state c.in-Bin.op l r is cases c.side_node.new.deduction c.in_ok-first.first first.grown first.deduction first.assumes first.positive first.tree first.place in
+    let here = first_state g c.args.deduction.now c.args.case.now hyps c.args.node c.args.done state c.in-Bin.op l r is cases (not c.closes_at_once-left.result) c.side_node.new.deduction c.in_ok-first.first first.grown first.deduction first.assumes first.positive first.tree first.place in
     let reached = c.in_ok-line.ensures.reaches (c.in_ok-first.first.line ∷ hyps) here in
     let grown = grows_on c.args.deduction.now c.side_node.new.deduction c.close.new.deduction first.grown reached.grown in
     let parent = compound_said g c.args.deduction.now c.close.new.deduction c.args.case.now hyps c.args.node [] c.args.done state c.in_ok-line.ensures.deduction c.in-Bin.op l r is in
@@ -268,14 +269,14 @@ split-spread-requires-clause-is_open t c =
     let split = c.requires.split in
     let cases : gives_cases c.in-Bin.op c.args.node.positive ≡ true = subst (λ (op : Op). gives_cases op c.args.node.positive ≡ true) (one_op split.0 c.in-Bin.op split.1 split.2 l r (sym split.3 ∙ is)) split.4 in
     let first = c.in_ok-first.ensures in
-    let here = first_state g c.args.deduction.now c.args.case.now hyps c.args.node c.args.done state c.in-Bin.op l r is cases c.side_node.new.deduction c.in_ok-first.first first.grown first.deduction first.assumes first.positive first.tree first.place in
+    let here = first_state g c.args.deduction.now c.args.case.now hyps c.args.node c.args.done state c.in-Bin.op l r is cases (not c.closes_at_once-left.result) c.side_node.new.deduction c.in_ok-first.first first.grown first.deduction first.assumes first.positive first.tree first.place in
     let reached = c.in_ok-line.ensures.reaches (c.in_ok-first.first.line ∷ hyps) here in
     let same = c.in_ok-line.ensures.same in
     let duty : Duty = Second c.args.node.line (record { hyp = c.in_ok-first.first.line; source = c.in_ok-line.line }) c.in_ok-second.second.line in
     let next : Case = record { splits = c.close.new.case.splits; fronts = c.close.new.case.fronts; held = c.close.new.case.held; duties = c.push.new.self } in
     let some = split_below c.args.node split in
     let most : ℕ = some.0 + all_unwritten (opens_of g.order c.args.done c.args.case.now) in
-    let goes = second_on g c.args.deduction.now c.args.case.now hyps c.args.node c.args.done state c.in-Bin.op l r is cases c.side_node.new.deduction c.close.new.deduction c.side_node-2.new.deduction next c.in_ok-first.first c.in_ok-second.second c.in_ok-line.line most duty
+    let goes = second_on g c.args.deduction.now c.args.case.now hyps c.args.node c.args.done state c.in-Bin.op l r is cases (not c.closes_at_once-left.result) c.side_node.new.deduction c.close.new.deduction c.side_node-2.new.deduction next c.in_ok-first.first c.in_ok-second.second c.in_ok-line.line most duty
     first.grown reached.grown c.in_ok-second.ensures.grown c.in_ok-second.ensures.deduction first.one c.in_ok-second.ensures.one first.tree c.in_ok-second.ensures.tree c.in_ok-second.ensures.positive c.in_ok-second.ensures.place first.assumes c.in_ok-second.ensures.assumes reached (λ hs x. x) refl
     (record { cells = same.cells; top = same.top; fronts = same.fronts; held = same.held }) (c.in_ok-push.ensures.items ∙ ap (λ (ds : List Duty). ds ++ duty ∷ []) same.duties) (omega (arith, some.1)) in
     (goes.more, [], c.args.done, goes.state)
@@ -295,9 +296,9 @@ split-returns-clause-spread t c =
     let whole : List Open = open_node c.args.node ∷ opens_of g.order c.args.done c.args.case.now in
     ok_second_then c.spread.result g c.args.deduction.now c.side_node-2.new.deduction c.spread.new.deduction c.args.case.now next c.spread.new.case (open_node c.args.node) (open_node c.in_ok-second.second) c.args.done (room whole) (all_unwritten whole) c.spread.ensures.grown c.spread.ensures.spread
     (λ hyps most state strict.
-    let here = first_state g c.args.deduction.now c.args.case.now hyps c.args.node c.args.done state c.in-Bin.op l r is cases c.side_node.new.deduction c.in_ok-first.first first.grown first.deduction first.assumes first.positive first.tree first.place in
+    let here = first_state g c.args.deduction.now c.args.case.now hyps c.args.node c.args.done state c.in-Bin.op l r is cases (not c.closes_at_once-left.result) c.side_node.new.deduction c.in_ok-first.first first.grown first.deduction first.assumes first.positive first.tree first.place in
     let reached = c.in_ok-line.ensures.reaches (c.in_ok-first.first.line ∷ hyps) here in
-    second_on g c.args.deduction.now c.args.case.now hyps c.args.node c.args.done state c.in-Bin.op l r is cases c.side_node.new.deduction c.close.new.deduction c.side_node-2.new.deduction next c.in_ok-first.first c.in_ok-second.second c.in_ok-line.line most duty
+    second_on g c.args.deduction.now c.args.case.now hyps c.args.node c.args.done state c.in-Bin.op l r is cases (not c.closes_at_once-left.result) c.side_node.new.deduction c.close.new.deduction c.side_node-2.new.deduction next c.in_ok-first.first c.in_ok-second.second c.in_ok-line.line most duty
     first.grown reached.grown c.in_ok-second.ensures.grown c.in_ok-second.ensures.deduction first.one c.in_ok-second.ensures.one first.tree c.in_ok-second.ensures.tree c.in_ok-second.ensures.positive c.in_ok-second.ensures.place first.assumes c.in_ok-second.ensures.assumes reached (λ hs x. x) refl
     (record { cells = same.cells; top = same.top; fronts = same.fronts; held = same.held }) (c.in_ok-push.ensures.items ∙ ap (λ (ds : List Duty). ds ++ duty ∷ []) same.duties) strict)
 
@@ -312,7 +313,7 @@ split-returns-clause-grown t c =
     let split = c.requires.split in
     let cases : gives_cases c.in-Bin.op c.args.node.positive ≡ true = subst (λ (op : Op). gives_cases op c.args.node.positive ≡ true) (one_op split.0 c.in-Bin.op split.1 split.2 l r (sym split.3 ∙ is)) split.4 in
     let first = c.in_ok-first.ensures in
-    let here = first_state g c.args.deduction.now c.args.case.now hyps c.args.node c.args.done state c.in-Bin.op l r is cases c.side_node.new.deduction c.in_ok-first.first first.grown first.deduction first.assumes first.positive first.tree first.place in
+    let here = first_state g c.args.deduction.now c.args.case.now hyps c.args.node c.args.done state c.in-Bin.op l r is cases (not c.closes_at_once-left.result) c.side_node.new.deduction c.in_ok-first.first first.grown first.deduction first.assumes first.positive first.tree first.place in
     let reached = c.in_ok-line.ensures.reaches (c.in_ok-first.first.line ∷ hyps) here in
     on_ok_grows c.spread.result c.args.deduction.now c.side_node-2.new.deduction c.spread.new.deduction
     (grows_on c.args.deduction.now c.close.new.deduction c.side_node-2.new.deduction (grows_on c.args.deduction.now c.side_node.new.deduction c.close.new.deduction first.grown reached.grown) c.in_ok-second.ensures.grown) c.spread.ensures.grown

@@ -1,4 +1,4 @@
-use Rattle.std.proofs.Common.{◌≡◌, refl, sym, subst}
+use Rattle.std.proofs.Common.{refl, sym, subst}
 use Rattle.hol_terms.specs.Terms.{Term, plain_term, truth_type}
 use Rattle.hol_terms.specs.Typing.{IsFormula}
 use Rattle.expansion_tree.proofs.Formulas.{normal_formula}

@@ -1,14 +1,15 @@
-use Rattle.std.proofs.Common.{◌<◌, ◌+◌, [], ◌∷◌, ℕ, List, length, sym, ◌∙◌, ap}
+use Rattle.std.proofs.Common.{◌+◌, [], ◌∷◌, ℕ, List, sym, ◌∙◌, ap}
 use Rattle.std.specs.Prelude.{slice_get}
 use Rattle.std.specs.Option.{option_copied}
 use Rattle.std.proofs.lemmas.Map.{none_passes_from_lookup}
+use Rattle.std.proofs.lemmas.Result.{on_ok_weaker}
 use Rattle.nd_steps.specs.Deductions.{Grows}
 use Rattle.nd_steps.proofs.Growing.{grows_on}
 use Rattle.refutations.specs.declared.nodes.Node.{Node}
 use Rattle.refutations.specs.Opens.{open_node, all_unwritten}
 use Rattle.refutations.specs.States.{IsState, IsSpreadBy, Spreads, opens_of, room}
 use Rattle.refutations.proofs.Spreading.{goes_on_then}
-use Rattle.refutations.proofs.Turning.{turn_within, turn_passes, turn_found, turn_line, turn_reaches, turn_goes_on, ok_both, ok_on}
+use Rattle.refutations.proofs.Turning.{turn_within, turn_passes, turn_found, turn_line, turn_reaches, turn_goes_on, ok_both}
 use Rattle.refutations.proofs.refute.take_turn.Goals as goal
 
 pub at-occurrence-requires : goal.at-occurrence-requires
@@ -67,7 +68,7 @@ returns-clause-spread c =
 pub returns-clause-turn : goal.returns-clause-turn
 returns-clause-turn c =
     let within = turn_within c.args.reading.now.accepted.now c.requires.read.accepted c.args.deduction.now c.args.case.now c.requires.state.0 c.args.done c.requires.state.1 c.requires.none in
-    ok_on c.spread.result (Grows c.expanded_line.new.deduction c.spread.new.deduction) (c.args.done < length c.args.reading.now.accepted.now.order) (λ grown. within) c.spread.ensures.grown
+    on_ok_weaker c.spread.result (λ grown. within) c.spread.ensures.grown
 
 pub returns-clause-grown : goal.returns-clause-grown
 returns-clause-grown c =
@@ -77,4 +78,4 @@ returns-clause-grown c =
     let here = ap (λ (order : List ℕ). slice_get order c.args.done) (sym c.order.ensures) ∙ c.at-occurrence.ensures in
     let found = turn_found g c.requires.read.accepted lines c.args.case.now c.requires.state.0 c.args.done state c.requires.none c.at-occurrence.result c.in-Some.front.now here (sym c.in-Some.ensures.value) in
     let reached = turn_reaches g c.requires.read.accepted lines c.args.case.now c.requires.state.0 c.args.done state c.requires.none c.in-Some.front.now found c.expanded_line.new.deduction c.in_ok-line.line c.in_ok-line.ensures.reaches in
-    ok_on c.spread.result (Grows c.expanded_line.new.deduction c.spread.new.deduction) (Grows lines c.spread.new.deduction) (λ grown. grows_on lines c.expanded_line.new.deduction c.spread.new.deduction reached.grown grown) c.spread.ensures.grown
+    on_ok_weaker c.spread.result (λ grown. grows_on lines c.expanded_line.new.deduction c.spread.new.deduction reached.grown grown) c.spread.ensures.grown
