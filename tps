@@ -25,7 +25,8 @@ esac
 (cd "$crate" && exec rt try -- "$@") < "$room/input" > "$room/output" 2> "$room/told"
 status=$(sed -n 's/^run=ended status=\([0-9]*\) .*/\1/p' "$room/told" | tail -n 1)
 if [ -z "$status" ]; then
-  echo "tps: the sources came to no answer: $(grep -v '^call=' "$room/told" | tail -n 1)" >&2
+  why=$(sed -n 's/^checked: no-answer: //p' "$room/told" | tail -n 1)
+  echo "tps: no answer from the sources (${why:-$(tail -n 1 "$room/told")}); ./build makes the program, which has no such limit" >&2
   exit 70
 fi
 cat "$room/output"
