@@ -3,7 +3,6 @@
 use call_lines::answers::push_term;
 use core_text::faults::TextFault;
 use hol_terms::lists::Terms;
-use hol_terms::names::NameFault;
 use std::alloc::{AllocError, Global};
 
 /// The answer to a call, as it is printed.
@@ -20,8 +19,6 @@ pub enum NoAnswer {
     NoLine,
     /// A term has no type, or another one than the call takes.
     NotTyped,
-    /// A name isn't one.
-    NotAName,
     /// A proof text has no expansion proof.
     Rejected,
     /// The arguments are no derivation, form, term or type.
@@ -39,12 +36,6 @@ impl From<AllocError> for NoAnswer {
 impl From<TextFault> for NoAnswer {
     fn from(fault: TextFault) -> NoAnswer {
         NoAnswer::Text(fault)
-    }
-}
-
-impl From<NameFault> for NoAnswer {
-    fn from(_fault: NameFault) -> NoAnswer {
-        NoAnswer::NotAName
     }
 }
 

@@ -6,7 +6,6 @@ mod evidence;
 mod outlines;
 mod rules;
 mod shapes;
-mod steps;
 mod texts;
 mod translations;
 
@@ -15,11 +14,9 @@ use call_lines::lines::call_in;
 use std::alloc::Global;
 use std::io;
 
-/// The answer to a call that derives.
-fn answer_of_steps(alloc: Global, call: &str, arguments: &str) -> Answer {
+/// The answer to a call that translates.
+fn answer_of_translation(alloc: Global, call: &str, arguments: &str) -> Answer {
     match call {
-        "instances" => steps::instance_steps(alloc, arguments),
-        "contradictions" => steps::contradiction_steps(alloc, arguments),
         "translate" => translations::translation(alloc, arguments),
         "translated" => translations::verified_translation(alloc, arguments),
         _ => Err(NoAnswer::NoSuchCall),
@@ -37,7 +34,7 @@ fn answer_of_line(alloc: Global, call: &str, arguments: &str) -> Answer {
         "has_shape" => rules::shape(alloc, arguments),
         "has_hypotheses" => rules::rest(alloc, arguments),
         "variable_fault" => rules::variable(alloc, arguments),
-        _ => answer_of_steps(alloc, call, arguments),
+        _ => answer_of_translation(alloc, call, arguments),
     }
 }
 
