@@ -21,6 +21,6 @@ abbrev pub HeldMore : Option (List ℕ) → ℕ → Type 0
 HeldMore None max = ⊤
 HeldMore (Some xs) max = max < length xs
 
--- a front of the bytes was appended
+-- a front of the bytes was appended, and not all of them
 abbrev pub AppendsFront : Option (List ℕ) → Option (List ℕ) → List ℕ → Type 0
-AppendsFront old new bytes = (front : List ℕ) × (rest : List ℕ) × (bytes ≡ front ++ rest) × Appends old new front
+AppendsFront old new bytes = (front : List ℕ) × (rest : List ℕ) × (bytes ≡ front ++ rest) × Appends old new front × (0 < length rest)

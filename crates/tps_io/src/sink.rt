@@ -30,7 +30,7 @@ pub trait Sink {
         ensures cause { HasCause (faults self.old) (faults self.new) result };
 }
 
-/// Writes all the bytes. Where a call of the sink failed, some front of them was written. It takes no
+/// Writes all the bytes. Where a call of the sink failed, some front of them was written, and not all. It takes no
 /// memory.
 pub fn write_all<K: Sink>(sink: &mut K, bytes: &[u8]) -> Result<(), Failed>
     ensures ok { OnOk result (Appends (K.written sink.old) (K.written sink.new) bytes.now) }
