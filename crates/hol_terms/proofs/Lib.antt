@@ -1,5 +1,6 @@
 pub mod Bodies
 pub mod Collecting
+pub mod FirstOccurrences
 pub mod FreeLaws
 pub mod IndexLaws
 pub mod Naming

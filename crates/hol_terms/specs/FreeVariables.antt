@@ -1,5 +1,5 @@
 -- The free variables of a term, and the body of the abstraction over one of them.
-use Rattle.std.specs.Prelude.{ℕ, ◌+◌, List, [], ◌∷◌, ◌++◌, not, filter, cond, ◌≡◌, ◌⊎◌}
+use Rattle.std.specs.Prelude.{ℕ, ◌+◌, List, [], ◌∷◌, ◌++◌, not, filter, cond, Contains, ◌≡◌, ◌⊎◌}
 use Rattle.hol_terms.specs.Terms.{SimpleType, Term, free, bound, constant, application, abstraction, Variable}
 use Rattle.hol_terms.specs.Computed.{same_variable}
 use Rattle.hol_terms.specs.Indices.{put, raise}
@@ -32,6 +32,10 @@ first_occurrences (v ∷ rest) = v ∷ without v (first_occurrences rest)
 -- the free variables of a term, each once, in the order of first occurrence
 abbrev pub free_variables_of : Term → List Variable
 free_variables_of t = first_occurrences (occurrences t)
+
+-- the first of the two variables stands in the list before the other one does
+abbrev pub StandsFirst : List Variable → Variable → Variable → Type 0
+StandsFirst variables v w = (before : List Variable) × (after : List Variable) × (variables ≡ before ++ v ∷ after) × (Contains (before ++ v ∷ []) w → ⊥)
 
 -- the term u put for a free variable; under each abstraction its loose indices are raised
 abbrev pub replace_free : List ℕ → SimpleType → Term → Term → Term

@@ -1,9 +1,9 @@
 -- Laws of terms, which the layers above rest on. Each is the clause of a function of the module `laws`.
-use Rattle.std.specs.Prelude.{ℕ, suc, ◌+◌, ◌≤◌, List, [], ◌∷◌, ◌++◌, length, Contains, ◌≡◌, ◌↔◌, ◌⊎◌}
+use Rattle.std.specs.Prelude.{ℕ, suc, ◌+◌, ◌≤◌, List, [], ◌∷◌, ◌++◌, length, AllPairs, Contains, ◌≡◌, ◌≢◌, ◌↔◌, ◌⊎◌}
 use Rattle.hol_terms.specs.Terms.{SimpleType, Term}
 use Rattle.hol_terms.specs.Typing.{Typed}
 use Rattle.hol_terms.specs.Indices.{raise, put, instance_of, HasIndex, IsClosedBelow, IsClosed}
-use Rattle.hol_terms.specs.FreeVariables.{IsFree, IsBodyOver, free_variables_of, replace_free}
+use Rattle.hol_terms.specs.FreeVariables.{IsFree, IsBodyOver, StandsFirst, free_variables_of, occurrences, replace_free}
 use Rattle.hol_terms.specs.Truth.{Holds, IsAtom}
 
 -- types
@@ -74,6 +74,14 @@ FreeOfPut = (n : List ℕ) (s : SimpleType) (k : ℕ) (u t : Term) → IsFree n 
 -- the list of free variables has exactly those
 abbrev pub ListsFreeVariables : Type 0
 ListsFreeVariables = (n : List ℕ) (s : SimpleType) (t : Term) → Contains (free_variables_of t) (n, s) ↔ IsFree n s t
+
+-- the list of free variables has each once
+abbrev pub ListsOnce : Type 0
+ListsOnce = (t : Term) → AllPairs (λ v w. v ≢ w) (free_variables_of t)
+
+-- and in the order in which they first occur in the term
+abbrev pub ListsInOrder : Type 0
+ListsInOrder = (t : Term) → AllPairs (StandsFirst (occurrences t)) (free_variables_of t)
 
 -- a term has one body over a variable
 abbrev pub HasOneBody : Type 0

@@ -1,6 +1,6 @@
 //! Laws of terms. The functions do nothing: what each ensures is a theorem, which the layers above may cite.
 
-ghost use Rattle.hol_terms.specs.Laws.{AtomHoldsInList, BodyKeepsType, FreeOfPut, HasOneBody, HasOneType, HoldsOrNot, InstanceIsReplaced, IsClosedByType, ListsFreeVariables, PutKeepsType, PutOfClosed, PutOfRaised, PutsCommute, RaiseCommutesAbove, RaiseCommutesBelow, RaiseKeepsType, RaiseOfClosed, RaisesCommute, RaisesJoin, ReplaceKeepsType, ReplaceOfNotFree, ReplacesCommute};
+ghost use Rattle.hol_terms.specs.Laws.{AtomHoldsInList, BodyKeepsType, FreeOfPut, HasOneBody, HasOneType, HoldsOrNot, InstanceIsReplaced, IsClosedByType, ListsFreeVariables, ListsInOrder, ListsOnce, PutKeepsType, PutOfClosed, PutOfRaised, PutsCommute, RaiseCommutesAbove, RaiseCommutesBelow, RaiseKeepsType, RaiseOfClosed, RaisesCommute, RaisesJoin, ReplaceKeepsType, ReplaceOfNotFree, ReplacesCommute};
 
 /// A term has at most one type and no loose index without a type, and its type stays under raised and replaced indices and in
 /// the body over a variable.
@@ -24,10 +24,13 @@ pub fn indices()
     ensures put_of_closed { PutOfClosed }
 {}
 
-/// Which variables are free in an instance and in the list of free variables, and that a term has one body over a variable.
+/// Which variables are free in an instance; that the list of free variables has exactly those, each once and in the order of first
+/// occurrence; and that a term has one body over a variable.
 pub fn free_variables()
     ensures instance { FreeOfPut }
     ensures list { ListsFreeVariables }
+    ensures once { ListsOnce }
+    ensures order { ListsInOrder }
     ensures body { HasOneBody }
 {}
 

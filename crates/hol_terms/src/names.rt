@@ -1,6 +1,6 @@
 //! Names of variables.
 
-ghost use Rattle.std.specs.Prelude.{◌≡◌, ◌↔◌, ◌∷◌, ◌≤◌, All, IfOk, IsTrue, List, MatchResult, decimal, encode_utf8_all, length, ℕ};
+ghost use Rattle.std.specs.Prelude.{◌≡◌, ◌↔◌, ◌∷◌, ◌<◌, ◌≤◌, All, IfOk, IsTrue, List, MatchResult, Some, decimal, encode_utf8_all, length, slice_get, ℕ};
 ghost use Rattle.std.specs.Char.{IsScalar};
 ghost use Rattle.hol_terms.specs.Names.{BeginsWithUnderscore, IsIdentifier, IsName, IsReserved, IsWord};
 ghost use Rattle.hol_terms.specs.declared.names.NameFault.TheVariants.{NotAName};
@@ -142,6 +142,21 @@ impl Name {
         ensures name { IsName self.now }
     {
         self.characters.as_slice()
+    }
+
+    /// The number of characters.
+    pub fn len(&self) -> u64
+        ensures { result ≡ length self.now }
+    {
+        self.characters.len() as u64
+    }
+
+    /// Character `i`, counted from 0.
+    pub fn at(&self, i: u64) -> char
+        requires { i < length self.now }
+        ensures { slice_get self.now i ≡ Some result }
+    {
+        self.characters[i as usize]
     }
 
     /// Whether the two names are equal.

@@ -1,6 +1,6 @@
 //! The types of the abstractions around a term.
 
-ghost use Rattle.std.specs.Prelude.{◌≡◌, ◌∷◌, [], MatchOption, None, OnOk, Some, slice_get};
+ghost use Rattle.std.specs.Prelude.{◌≡◌, ◌∷◌, [], MatchOption, None, OnErr, OnOk, Some, slice_get};
 ghost use Rattle.hol_terms.specs.Scopes.{inner_types};
 ghost use Rattle.hol_terms.specs.Terms.{plain_type};
 
@@ -37,9 +37,10 @@ impl<'a> Scope<'a> {
         }
     }
 
-    /// One more abstraction, inside the others.
+    /// One more abstraction, inside the others; after an error nothing is changed.
     pub fn enter(&mut self, ty: &'a Ty) -> Result<(), AllocError>
-        ensures { OnOk result (self.new ≡ plain_type ty.now ∷ self.old) }
+        ensures ok { OnOk result (self.new ≡ plain_type ty.now ∷ self.old) }
+        ensures err { OnErr result (self.new ≡ self.old) }
     {
         self.outermost_first.push(ty)?;
         Ok(())
