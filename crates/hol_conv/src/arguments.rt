@@ -1,6 +1,6 @@
 //! The arguments of a term.
 
-ghost use Rattle.std.specs.Prelude.{◌≡◌, ◌∷◌, [], IfOk, MatchOption, OnOk};
+ghost use Rattle.std.specs.Prelude.{◌≡◌, ◌∷◌, [], IfOk, MatchOption, OnErr, OnOk};
 ghost use Rattle.hol_conv.specs.NormalForms.{apply_all};
 ghost use Rattle.hol_terms.specs.Terms.{plain_term};
 
@@ -37,9 +37,10 @@ impl Arguments {
         }
     }
 
-    /// One more argument, before the others.
+    /// One more argument, before the others; after an error nothing is changed.
     pub fn put_first(&mut self, argument: Tm) -> Result<(), AllocError>
-        ensures { OnOk result (self.new ≡ plain_term argument ∷ self.old) }
+        ensures ok { OnOk result (self.new ≡ plain_term argument ∷ self.old) }
+        ensures err { OnErr result (self.new ≡ self.old) }
     {
         self.last_first.push(argument)?;
         Ok(())
