@@ -1,11 +1,13 @@
 pub mod Balance
 pub mod Cuts
+pub mod Depths
 pub mod Identifiers
 pub mod Judgements
 pub mod Kept
 pub mod Letters
 pub mod NameLaws
 pub mod Numerals
+pub mod Parsing
 pub mod Places
 pub mod Results
 pub mod Runs

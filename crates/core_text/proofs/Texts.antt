@@ -22,7 +22,7 @@ is_none_of (Some x) h = cc
 is_none_of None h = refl
 
 -- the whole text's tokens have no fault exactly where no more than 5,000 brackets are open at once
-whole_balance : (bytes : List ℕ) (f : Form) → IsWellSpelled f → tokens bytes ≡ spelling f → is_none (first_fault 0 false (pieces 0 bytes) (length bytes)) ≡ (nat_le (nesting f) 5000 && true)
+pub whole_balance : (bytes : List ℕ) (f : Form) → IsWellSpelled f → tokens bytes ≡ spelling f → is_none (first_fault 0 false (pieces 0 bytes) (length bytes)) ≡ (nat_le (nesting f) 5000 && true)
 whole_balance bytes f words h =
     let zero : 0 + nesting f ≡ nesting f = omega arith in
     none-first_fault 0 false (pieces 0 bytes) (length bytes)

@@ -1,11 +1,12 @@
 -- Laws of texts, which readers above rest on. Each is the clause of a function of the module `laws`.
-use Rattle.std.specs.Prelude.{◌≡◌, ℕ, ◌≤◌, List, [], ◌∷◌, ◌++◌}
+use Rattle.std.specs.Prelude.{◌≡◌, ◌↔◌, ℕ, ◌≤◌, None, List, [], ◌∷◌, ◌++◌}
 use Rattle.hol_terms.specs.Terms.{SimpleType, Term}
 use Rattle.hol_terms.specs.Typing.{Typed}
-use Rattle.core_text.specs.Tokens.{Token}
+use Rattle.core_text.specs.Tokens.{Token, depth_of}
 use Rattle.core_text.specs.Forms.{Form, IsTextOf, IsWellSpelled, nesting, spelling}
 use Rattle.core_text.specs.Placed.{IsPlacedText, Placed}
 use Rattle.core_text.specs.CoreForms.{HasLetters, HasNames, IsFormOfTerm, IsFormOfType, term_form, type_form}
+use Rattle.core_text.specs.Faults.{form_fault}
 use Rattle.core_text.specs.Written.{written}
 
 -- a text is read in one way at most
@@ -30,6 +31,10 @@ HasOneTerm = (f : Form) (s t : Term) → IsFormOfTerm f s → IsFormOfTerm f t �
 abbrev pub WrittenIsText : Type 0
 WrittenIsText = (f : Form) → IsWellSpelled f → nesting f ≤ 5000 → IsTextOf (written f) f × IsTextOf (written f ++ 10 ∷ []) f
 
+-- what is written for a form is nested as deep as the form, and so it is with LF behind it
+abbrev pub WrittenHasDepth : Type 0
+WrittenHasDepth = (f : Form) → IsWellSpelled f → (depth_of (written f) ≡ nesting f) × (depth_of (written f ++ 10 ∷ []) ≡ nesting f)
+
 -- what is written for a type is a text of that type alone
 abbrev pub WrittenTypeIsRead : Type 0
 WrittenTypeIsRead =
@@ -52,6 +57,13 @@ TypedIsWellSpelled = (t : Term) (s : SimpleType) → HasNames t → Typed [] t s
 abbrev pub HasNoProperFront : Type 0
 HasNoProperFront = (f g : Form) (rest : List Token) → IsWellSpelled f → IsWellSpelled g → spelling f ++ rest ≡ spelling g → (f ≡ g) × (rest ≡ [])
 
--- what stands before a closing bracket of a text, the last one among them, is the text of no form
+-- a text that is cut at any byte before a closing bracket, the last one among them, is the text of no form; the cut may stand in the
+-- midst of a word or of a character
 abbrev pub CutIsNoText : Type 0
-CutIsNoText = (front back : List ℕ) (f g : Form) → IsTextOf (front ++ 41 ∷ back) f → IsTextOf front g → ⊥
+CutIsNoText = (front middle back : List ℕ) (f g : Form) → IsTextOf (front ++ (middle ++ 41 ∷ back)) f → IsTextOf front g → ⊥
+
+-- the fault of a text
+
+-- nothing is wrong with the bytes exactly where they are the text of some form, within the limits of reading
+abbrev pub IsTextWithoutFault : Type 0
+IsTextWithoutFault = (bytes : List ℕ) → (form_fault bytes ≡ None) ↔ ((f : Form) × IsTextOf bytes f)

@@ -1,5 +1,5 @@
 -- The tokens of a text: brackets and words, each with the place of its first byte.
-use Rattle.std.specs.Prelude.{ℕ, ◌+◌, ◌==◌, ◌||◌, ◌&&◌, not, Bool, if◌then◌else◌, List, [], ◌∷◌, map}
+use Rattle.std.specs.Prelude.{ℕ, ◌+◌, ◌-◌, max, ◌==◌, ◌||◌, ◌&&◌, not, Bool, if◌then◌else◌, List, [], ◌∷◌, map}
 
 -- a bracket, or a word by its bytes
 pub data Token : Type 0 where
@@ -41,3 +41,14 @@ pieces place (b ∷ bs) =
 -- the tokens of a text
 abbrev pub tokens : List ℕ → List Token
 tokens bytes = map token (pieces 0 bytes)
+
+-- how many brackets are open at most at once, from where this many are
+abbrev pub most_open : ℕ → List Token → ℕ
+most_open depth [] = depth
+most_open depth (word w ∷ ts) = most_open depth ts
+most_open depth (opening ∷ ts) = most_open (depth + 1) ts
+most_open depth (closing ∷ ts) = max depth (most_open (depth - 1) ts)
+
+-- how deep the brackets of a text are nested
+abbrev pub depth_of : List ℕ → ℕ
+depth_of bytes = most_open 0 (tokens bytes)

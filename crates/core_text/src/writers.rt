@@ -1,6 +1,6 @@
 //! Writes the core form of types and terms.
 
-ghost use Rattle.std.specs.Prelude.{◌≡◌, ◌++◌, IfOk, decimal, encode_utf8_all};
+ghost use Rattle.std.specs.Prelude.{◌≡◌, ◌++◌, IfOk, MatchResult, OnErr, decimal, encode_utf8_all};
 ghost use Rattle.hol_terms.specs.Names.{IsName};
 ghost use Rattle.hol_terms.specs.Terms.{plain_constant, plain_term, plain_type};
 ghost use Rattle.core_text.specs.CoreForms.{HasLetters, HasNames, constant_form, term_form, type_form};
@@ -52,19 +52,20 @@ fn append_constant(out: &mut Text, con: &Con) -> Result<(), AllocError>
     }
 }
 
-/// Adds a name at the end of the text.
+/// Adds a name at the end of the text; after an error nothing is changed.
 pub fn append_name(alloc: Global, out: &mut Text, name: &Name) -> Result<(), AllocError>
     ensures text { IfOk result (λ _. out.new ≡ out.old ++ encode_utf8_all name.now) }
     ensures named { IfOk result (λ _. IsName name.now) }
+    ensures err { OnErr result (out.new ≡ out.old) }
 {
     let characters = name.characters();
     let text: String = characters.iter().copied().collect(alloc)?;
     out.append(text.as_bytes())
 }
 
-/// Adds a number at the end of the text, in decimal.
+/// Adds a number at the end of the text, in decimal; after an error nothing is changed.
 pub fn append_number(alloc: Global, out: &mut Text, number: u64) -> Result<(), AllocError>
-    ensures { IfOk result (λ _. out.new ≡ out.old ++ decimal number) }
+    ensures { MatchResult result (λ _. out.new ≡ out.old ++ decimal number) (λ _. out.new ≡ out.old) }
 {
     let text = format!(in alloc; "{number}")?;
     out.append(text.as_bytes())
@@ -72,7 +73,7 @@ pub fn append_number(alloc: Global, out: &mut Text, number: u64) -> Result<(), A
 
 /// Adds a term at the end of the text.
 #[tactic(auto, using(crate::proofs::Letters::type_letters, crate::proofs::Letters::constant_letters))]
-pub fn append_term(alloc: Global, out: &mut Text, t: &Tm) -> Result<(), AllocError>
+fn add_term(alloc: Global, out: &mut Text, t: &Tm) -> Result<(), AllocError>
     ensures names { IfOk result (λ _. HasNames (plain_term t.now)) }
     ensures text { IfOk result (λ _. out.new ≡ out.old ++ written (term_form (plain_term t.now))) }
 {
@@ -92,16 +93,16 @@ pub fn append_term(alloc: Global, out: &mut Text, t: &Tm) -> Result<(), AllocErr
         Tm::Con(con) => append_constant(out, con),
         Tm::App(function, argument) => {
             out.append(b"(A ")?;
-            append_term(alloc, out, function)?;
+            add_term(alloc, out, function)?;
             out.push(b' ')?;
-            append_term(alloc, out, argument)?;
+            add_term(alloc, out, argument)?;
             out.push(b')')
         }
         Tm::Lam(ty, body) => {
             out.append(b"(L ")?;
             append_type(out, ty)?;
             out.push(b' ')?;
-            append_term(alloc, out, body)?;
+            add_term(alloc, out, body)?;
             out.push(b')')
         }
     }
@@ -126,6 +127,16 @@ pub fn write_term(alloc: Global, t: &Tm) -> Result<Text, AllocError>
     ensures text { IfOk result (λ text. text ≡ written (term_form (plain_term t.now))) }
 {
     let mut out = Text::new(alloc);
-    append_term(alloc, &mut out, t)?;
+    add_term(alloc, &mut out, t)?;
     Ok(out)
+}
+
+/// Adds a term at the end of the text; after an error nothing is changed.
+pub fn append_term(alloc: Global, out: &mut Text, t: &Tm) -> Result<(), AllocError>
+    ensures names { IfOk result (λ _. HasNames (plain_term t.now)) }
+    ensures text { IfOk result (λ _. out.new ≡ out.old ++ written (term_form (plain_term t.now))) }
+    ensures err { OnErr result (out.new ≡ out.old) }
+{
+    let text = write_term(alloc, t)?;
+    out.append(text.as_slice())
 }
