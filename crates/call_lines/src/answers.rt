@@ -1,6 +1,6 @@
 //! Answers as text.
 
-ghost use Rattle.std.specs.Prelude.{◌≡◌, ◌≢◌, ◌++◌, ◌∷◌, if◌then◌else◌, IfErr, IfOk, IsUtf8, codes, encode_utf8_all, string_bytes};
+ghost use Rattle.std.specs.Prelude.{◌≡◌, ◌≢◌, ◌++◌, ◌∷◌, if◌then◌else◌, IfErr, IfOk, IsUtf8, OnErr, codes, encode_utf8_all, string_bytes};
 ghost use Rattle.core_text.specs.CoreForms.{term_form, type_form};
 ghost use Rattle.core_text.specs.Written.{written};
 ghost use Rattle.hol_terms.specs.Terms.{plain_term, plain_type};
@@ -50,14 +50,16 @@ pub fn name_text(alloc: Global, name: &Name) -> Result<String, TextFault>
     string_of(alloc, &text)
 }
 
-/// Adds the term behind a space.
+/// Adds the term behind a space; after an error nothing is changed.
 pub fn push_term(alloc: Global, answer: &mut String, t: &Tm) -> Result<(), TextFault>
     ensures text { IfOk result (λ _. string_bytes answer.new ≡ string_bytes answer.old ++ 32 ∷ written (term_form (plain_term t.now))) }
     ensures fault { IfErr result (λ e. e ≢ TextFault.Memory → IsUtf8 (written (term_form (plain_term t.now))) → ⊥) }
+    ensures err { OnErr result (string_bytes answer.new ≡ string_bytes answer.old) }
 {
     let text = term_text(alloc, t)?;
-    answer.push(' ')?;
-    answer.push_str(text.as_str())?;
+    let mut piece = String::from_str(alloc, " ")?;
+    piece.push_str(text.as_str())?;
+    answer.push_str(piece.as_str())?;
     Ok(())
 }
 

@@ -4,7 +4,8 @@ use Rattle.hol_terms.specs.Terms.{SimpleType, Term, truth_type, plain_term}
 use Rattle.hol_terms.specs.Typing.{Typed, IsFormula}
 use Rattle.hol_terms.specs.Indices.{instance_of}
 use Rattle.hol_terms.specs.declared.terms.Tm.{Tm}
-use Rattle.hol_conv.specs.Conversion.{Conv, done, next}
+use Rattle.hol_conv.specs.Conversion.{Conv, Long, done, long, next}
+use Rattle.hol_conv.proofs.Model.{form-typed}
 use Rattle.hol_conv.proofs.Normals.{one_normal_form}
 use Rattle.expansion_tree.specs.Trees.{ExpansionTree, ExpansionBranches, no_branch, branch}
 use Rattle.expansion_tree.specs.Standing.{Standing, StandingBranches, at_expansion, none_standing, Stands, BranchesStand, IsNormalFormula, deep_formula, joined_deep, joining, compound_of}
@@ -22,6 +23,10 @@ conv-ends types t _ _ (next a b c h n r) = conv-ends types t b c r
 -- what has a long normal form is a formula
 pub normal_of_formula : (n a : Term) → IsNormalFormula n a → IsFormula a
 normal_of_formula n a h = conv-ends [] truth_type n a h.1
+
+-- a term of a branch has the type of its variable
+pub long_typed : (u : Term) (s : SimpleType) → Long [] u s → Typed [] u s
+long_typed u s h = form-typed long [] u s h
 
 pub one_normal : (a n m : Term) → IsNormalFormula n a → IsNormalFormula m a → n ≡ m
 one_normal a n m h g = one_normal_form [] a n m truth_type h g

@@ -1,5 +1,5 @@
 -- What the walk that stands a tree at a formula finds.
-use Rattle.std.specs.Prelude.{◌≡◌, ℕ, ◌+◌, List, [], ◌∷◌, ◌++◌, length, map, Bool}
+use Rattle.std.specs.Prelude.{◌≡◌, ◌⊎◌, ℕ, ◌+◌, List, [], ◌∷◌, ◌++◌, length, map, Bool}
 use Rattle.hol_terms.specs.Terms.{SimpleType, Term, Variable, plain_term, plain_type}
 use Rattle.expansion_tree.specs.declared.faults.FitFault.{FitFault}
 use Rattle.expansion_tree.specs.declared.faults.FitFault.TheVariants.{Memory, Misfit, BadTerm, BadVariable}
@@ -36,6 +36,10 @@ with_more old more_leaves more_selections more_taken = record {
   selection_list = old.selection_list ++ more_selections;
   taken = old.taken ++ more_taken;
 }
+
+-- nothing is changed, but that the variable may have come behind those that are taken
+abbrev pub MayHaveTaken : Findings → Findings → Variable → Type 0
+MayHaveTaken old new v = (new ≡ old) ⊎ (new ≡ with_more old [] [] (v ∷ []))
 
 -- The tree, whose root has the number node, was stood at the formula of polarity p: its leaves and its selected variables came behind
 -- the old ones, the matrix has its paths, and end is the number after those of its nodes.

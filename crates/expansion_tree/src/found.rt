@@ -1,8 +1,8 @@
 //! What the walk along a tree finds: its leaves and its selected variables.
 
-ghost use Rattle.std.specs.Prelude.{◌≡◌, ◌++◌, ◌∷◌, [], Contains, IfOk, OnOk, map, true, false};
+ghost use Rattle.std.specs.Prelude.{◌≡◌, ◌++◌, ◌∷◌, [], Contains, IfOk, OnErr, OnOk, map, true, false};
 ghost use Rattle.hol_terms.specs.Terms.{plain_term, plain_type};
-ghost use Rattle.expansion_tree.specs.Stood.{findings_of, with_more};
+ghost use Rattle.expansion_tree.specs.Stood.{MayHaveTaken, findings_of, with_more};
 
 use hol_terms::names::Name;
 use hol_terms::terms::Tm;
@@ -35,16 +35,18 @@ pub struct Found {
 }
 
 impl Found {
-    /// Puts a leaf behind the others.
+    /// Puts a leaf behind the others. An `Err` changes nothing.
     #[inline(never)]
     pub fn add_leaf(&mut self, positive: bool, formula: Tm) -> Result<(), AllocError>
-        ensures { OnOk result (findings_of self.new ≡ with_more (findings_of self.old) ((positive, plain_term formula) ∷ []) [] []) }
+        ensures ok { OnOk result (findings_of self.new ≡ with_more (findings_of self.old) ((positive, plain_term formula) ∷ []) [] []) }
+        ensures err { OnErr result (findings_of self.new ≡ findings_of self.old) }
     {
         self.leaves.push(Leaf { positive, formula })?;
         Ok(())
     }
 
-    /// Puts the variable that a node selects behind the others, and tells whether it wasn't taken.
+    /// Puts the variable that a node selects behind the others, and tells whether it wasn't taken; where it was, nothing is changed. After
+    /// an `Err` it may be taken, and nothing else is changed.
     #[inline(never)]
     pub fn select(
         &mut self,
@@ -55,6 +57,8 @@ impl Found {
     ) -> Result<bool, AllocError>
         ensures new { IfOk result (λ new. new ≡ true → (Contains self.old.taken (name.now, plain_type ty.now) → ⊥) × (findings_of self.new ≡ with_more (findings_of self.old) [] (record { node = node; variable = (name.now, plain_type ty.now) } ∷ []) ((name.now, plain_type ty.now) ∷ []))) }
         ensures taken { IfOk result (λ new. new ≡ false → Contains self.old.taken (name.now, plain_type ty.now)) }
+        ensures kept { IfOk result (λ new. new ≡ false → findings_of self.new ≡ findings_of self.old) }
+        ensures err { OnErr result (MayHaveTaken (findings_of self.old) (findings_of self.new) (name.now, plain_type ty.now)) }
     {
         if !self.taken.insert(name, ty)? {
             return Ok(false);

@@ -1,6 +1,6 @@
 //! The occurrences of a tree, and its weight.
 
-ghost use Rattle.std.specs.Prelude.{◌≡◌, ◌+◌, ◌-◌, ◌<◌, ◌≤◌, ◌++◌, ◌∷◌, IfOk, OnOk, length, map};
+ghost use Rattle.std.specs.Prelude.{◌≡◌, ◌+◌, ◌-◌, ◌<◌, ◌≤◌, ◌++◌, ◌∷◌, IfOk, OnErr, OnOk, length, map};
 ghost use Rattle.hol_terms.specs.Terms.{plain_term};
 ghost use Rattle.expansion_tree.specs.Counted.{branch_occurrences, closed_at, plain_occurrence};
 ghost use Rattle.expansion_tree.specs.Occurrences.{branch_occurrences_from, occurrences_from, term_weight, weight_of_all};
@@ -31,7 +31,7 @@ fn sum(a: u64, b: u64) -> Result<u64, AllocError>
 /// Puts the occurrences of a tree, whose root has the number `at`, behind those that were found; answers the number after those of
 /// its nodes.
 #[cycle(occur)]
-pub fn add_occurrences(
+fn add_tree(
     alloc: Global,
     tree: &Tree,
     at: u64,
@@ -43,12 +43,12 @@ pub fn add_occurrences(
     let below = sum(at, 1)?;
     match tree {
         Tree::Leaf | Tree::Const => Ok(below),
-        Tree::Not(t) => add_occurrences(alloc, t, below, found),
+        Tree::Not(t) => add_tree(alloc, t, below, found),
         Tree::Bin(_, t, u) => {
-            let middle = add_occurrences(alloc, t, below, &mut *found)?;
-            add_occurrences(alloc, u, middle, found)
+            let middle = add_tree(alloc, t, below, &mut *found)?;
+            add_tree(alloc, u, middle, found)
         }
-        Tree::Sel(_, t) => add_occurrences(alloc, t, below, found),
+        Tree::Sel(_, t) => add_tree(alloc, t, below, found),
         Tree::Exp(branches) => add_branches(alloc, branches, below, found),
     }
 }
@@ -92,7 +92,7 @@ fn add_branch(
         last: at,
         term,
     })?;
-    let end = add_occurrences(alloc, tree, at, &mut *found)?;
+    let end = add_tree(alloc, tree, at, &mut *found)?;
     close(&mut *found, place, end);
     Ok(end)
 }
@@ -104,6 +104,24 @@ fn close(found: &mut Vec<Occurrence>, place: usize, end: u64)
     ensures { map plain_occurrence found.new.items ≡ closed_at place (end - 1) (map plain_occurrence found.old.items) }
 {
     found[place].last = end - 1;
+}
+
+/// Puts the occurrences of a tree, whose root has the number `at`, behind those that were found; answers the number after those of
+/// its nodes. An `Err` changes nothing.
+pub fn add_occurrences(
+    alloc: Global,
+    tree: &Tree,
+    at: u64,
+    found: &mut Vec<Occurrence>,
+) -> Result<u64, AllocError>
+    ensures list { OnOk result (map plain_occurrence found.new.items ≡ map plain_occurrence found.old.items ++ occurrences_from at (plain_tree tree.now)) }
+    ensures end { IfOk result (λ end. end ≡ at + node_count (plain_tree tree.now)) }
+    ensures err { OnErr result (found.new.items ≡ found.old.items) }
+{
+    let mut own = Vec::new(alloc);
+    let end = add_tree(alloc, tree, at, &mut own)?;
+    found.append(&mut own)?;
+    Ok(end)
 }
 
 /// The weight of a term.

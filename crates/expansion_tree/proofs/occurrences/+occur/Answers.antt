@@ -9,7 +9,7 @@ add_branch-close-requires-clause-end t c = omega (arith, c.in_ok-end.ensures.end
 
 pub add_branch-returns-clause-list : goal.add_branch-returns-clause-list
 add_branch-returns-clause-list t c =
-    branch_listed c.args.found.now.items c.push.new.self.items c.add_occurrences.new.found.items c.close.new.found.items record { node = c.args.at; last = c.args.at; term = c.in_ok-term.term }
+    branch_listed c.args.found.now.items c.push.new.self.items c.add_tree.new.found.items c.close.new.found.items record { node = c.args.at; last = c.args.at; term = c.in_ok-term.term }
     c.len-place.result c.args.at c.in_ok-end.end (plain_term c.args.term.now) (plain_tree c.args.tree.now)
     c.in_ok-push.ensures.items (ap (λ (u : Term). record { first = c.args.at; last = c.args.at; term = u }) c.in_ok-term.ensures)
     (omega (arith, c.len-place.ensures, c.args.found.now.ok)) c.in_ok-end.ensures.list c.in_ok-end.ensures.end c.close.ensures

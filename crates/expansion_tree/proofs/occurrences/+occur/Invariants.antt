@@ -11,8 +11,8 @@ decreases-add_branch l = 4 * node_count (plain_tree l.tree.now) + 1
 abbrev pub decreases-add_branches : goal.decreases-add_branches
 decreases-add_branches l = 4 * branch_node_count (plain_branches l.branches.now) + 2
 
-abbrev pub decreases-add_occurrences : goal.decreases-add_occurrences
-decreases-add_occurrences l = 4 * node_count (plain_tree l.tree.now)
+abbrev pub decreases-add_tree : goal.decreases-add_tree
+decreases-add_tree l = 4 * node_count (plain_tree l.tree.now)
 
 -- what was found, before what is left
 abbrev pub invariant-add_branches-loop-rest : goal.invariant-add_branches-loop-rest
