@@ -1,19 +1,24 @@
 -- What is written is read again.
-use Rattle.std.proofs.Common.{◌≡◌, ℕ, ◌^◌, ◌≤◌, true, List, [], ◌∷◌, ◌++◌, codes, Result, Ok, refl, sym, ◌∙◌, arith}
-use Rattle.hol_terms.specs.Terms.{truth_type}
+use Rattle.std.proofs.Common.{◌≡◌, ℕ, ◌^◌, ◌≤◌, Bool, true, not, List, [], ◌∷◌, ◌++◌, codes, length, Result, Ok, refl, sym, ◌∙◌, ap, subst, arith, length-append}
+use Rattle.hol_terms.specs.Terms.{SimpleType, Term, free, truth_type}
+use Rattle.hol_terms.specs.Indices.{instance_of}
 use Rattle.core_text.specs.Forms.{AreWellSpelled, IsWellSpelled, nesting, nesting_of_all}
+use Rattle.core_text.specs.Tokens.{depth_of}
 use Rattle.core_text.specs.Words.{is_word}
 use Rattle.core_text.specs.Written.{written}
 use Rattle.core_text.specs.declared.faults.TextFault.{TextFault}
+use Rattle.core_text.proofs.Depths.{nesting_short, written_depth}
 use Rattle.core_text.proofs.Kept.{keyword, term_spelled_well, written_text}
 use Rattle.core_text.proofs.NameLaws.{is_word-encoded}
 use Rattle.core_text.proofs.Table.{somewhere}
 use Rattle.core_text.proofs.Texts.{one_form}
 use Rattle.expansion_tree.specs.declared.trees.Op.{Op}
 use Rattle.expansion_tree.specs.declared.trees.Op.TheVariants.{And, Or, Imp}
+use Rattle.expansion_tree.specs.Standing.{BranchesStand, Standing, StandingBranches, Stands, left_polarity}
+use Rattle.expansion_tree.proofs.Deepening.{long_typed}
 use Rattle.expansion_tree.specs.Trees.{ExpansionTree, leaf_node, constant_node, negation_node, connective_node, selection_node, expansion_node, ExpansionBranches, no_branch, branch}
 use Rattle.proof_text.specs.Forms.{branch_forms, mating_form, op_word, tree_form}
-use Rattle.proof_text.specs.Texts.{BranchesAreTyped, BranchesHaveNames, HasProofNames, IsProofText, IsTyped, Proof, TreeHasNames, TreeIsTyped, proof_form}
+use Rattle.proof_text.specs.Texts.{BranchesAreTyped, BranchesHaveNames, HasProofNames, IsProofText, IsTyped, IsWithinLimits, IsWrittenProof, Proof, TreeHasNames, TreeIsTyped, proof_form}
 use Rattle.proof_text.proofs.Table.{proof_spelled}
 
 op_spelled_well : (op : Op) → is_word (op_word op) ≡ true
@@ -39,11 +44,16 @@ mutual
     branches_spelled_well k bs most names.2 typed.2 (omega arith),
   )
 
+-- the form of a proof is well spelled where its nesting, and so each index, has 64 bits
+proof_spelled_well : (k : ℕ) (p : Proof) → k ≤ 2 ^ 64 → HasProofNames p → IsWellSpelled (mating_form p.mating) → IsTyped p → nesting (proof_form p) ≤ k → IsWellSpelled (proof_form p)
+proof_spelled_well k p most names numbers typed low =
+    let formula = term_spelled_well k [] p.formula truth_type most names.formula typed.formula (omega arith) in
+    let tree = tree_spelled_well k p.tree most names.tree typed.terms (omega arith) in
+    (keyword 80 (codes "ROOF") refl refl, (omega arith, (formula, (tree, (numbers, tt)))))
+
 pub written_is_text : (p : Proof) → HasProofNames p → IsWellSpelled (mating_form p.mating) → IsTyped p → nesting (proof_form p) ≤ 5000 → IsProofText (written (proof_form p) ++ 10 ∷ []) p
 written_is_text p names numbers typed low =
-    let formula = term_spelled_well 5000 [] p.formula truth_type (omega arith) names.formula typed.formula (omega arith) in
-    let tree = tree_spelled_well 5000 p.tree (omega arith) names.tree typed.terms (omega arith) in
-    let words : IsWellSpelled (proof_form p) = (keyword 80 (codes "ROOF") refl refl, (omega arith, (formula, (tree, (numbers, tt))))) in
+    let words = proof_spelled_well 5000 p (omega arith) names numbers typed low in
     record { text = (written_text (proof_form p) words low).1; names = names; typed = typed }
 
 pub one_proof : (bytes : List ℕ) (p q : Proof) → IsProofText bytes p → IsProofText bytes q → p ≡ q
@@ -52,3 +62,28 @@ one_proof bytes p q h i =
     let one = proof_spelled p place.0 place.1 h.names h.typed in
     let two = proof_spelled q place.0 (place.1 ∙ one_form bytes (proof_form p) (proof_form q) h.text i.text) i.names i.typed in
     let both : ◌≡◌ {A = Result Proof TextFault} (Ok p) (Ok q) = sym one ∙ two in cc
+
+-- what is written for a proof is a text of it alone
+pub written_is_read : (bytes : List ℕ) (p : Proof) → IsWrittenProof bytes p → IsTyped p → IsWithinLimits bytes
+    → IsProofText bytes p × ((q : Proof) → IsProofText bytes q → q ≡ p)
+written_is_read bytes p h typed limits =
+    let f = proof_form p in
+    let within : nesting f ≤ 1048576 = omega (arith, limits.short, nesting_short f, length-append (written f) (10 ∷ []), ap length h.same) in
+    let words = proof_spelled_well 1048576 p (omega arith) h.names h.numbers typed within in
+    let low : nesting f ≤ 5000 = omega (arith, limits.shallow, (written_depth f words).1, ap depth_of h.same) in
+    let text = subst (λ (l : List ℕ). IsProofText l p) (sym h.same) (written_is_text p h.names h.numbers typed low) in
+    (text, λ q other. one_proof bytes q p other text)
+
+mutual
+  pub standing_is_typed : (p : Bool) (a : Term) (t : ExpansionTree) (s : Standing) → Stands p a t s → TreeIsTyped t
+  standing_is_typed p a leaf_node s h = tt
+  standing_is_typed p a constant_node s h = tt
+  standing_is_typed p a (negation_node t) s (b, e, n, below, f) = standing_is_typed (not p) b t n below
+  standing_is_typed p a (connective_node op t u) s (b, c, e, m, left, n, right, f) = (standing_is_typed (left_polarity op p) b t m left, standing_is_typed p c u n right)
+  standing_is_typed p a (selection_node name t) s (ty, b, e, n, below, f) = standing_is_typed p (instance_of b (free name ty)) t n below
+  standing_is_typed p a (expansion_node bs) s (ty, b, e, ns, all, f) = branches_are_typed p ty b bs ns all
+
+  branches_are_typed : (p : Bool) (ty : SimpleType) (b : Term) (bs : ExpansionBranches) (ns : StandingBranches) → BranchesStand p ty b bs ns → BranchesAreTyped bs
+  branches_are_typed p ty b no_branch ns h = tt
+  branches_are_typed p ty b (branch u t bs) ns (is_long, a, normal, n, stands, rest, more, e) =
+      ((ty, long_typed u ty is_long), standing_is_typed p a t n stands, branches_are_typed p ty b bs rest more)

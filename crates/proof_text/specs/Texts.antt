@@ -1,10 +1,12 @@
 -- Proof texts: which bytes are the text of which formula, tree and mating.
-use Rattle.std.specs.Prelude.{ℕ, List, [], codes}
+use Rattle.std.specs.Prelude.{◌≡◌, ◌≤◌, ℕ, List, [], ◌∷◌, ◌++◌, codes, length}
 use Rattle.hol_terms.specs.Names.{IsName}
 use Rattle.hol_terms.specs.Terms.{SimpleType, Term, plain_term}
 use Rattle.hol_terms.specs.Typing.{IsFormula, Typed}
 use Rattle.core_text.specs.CoreForms.{HasNames, term_form}
-use Rattle.core_text.specs.Forms.{Form, word_form, number_form, list_form, no_forms, more_forms, IsTextOf}
+use Rattle.core_text.specs.Forms.{Form, word_form, number_form, list_form, no_forms, more_forms, IsTextOf, IsWellSpelled}
+use Rattle.core_text.specs.Tokens.{depth_of}
+use Rattle.core_text.specs.Written.{written}
 use Rattle.expansion_tree.specs.Trees.{ExpansionTree, leaf_node, constant_node, negation_node, connective_node, selection_node, expansion_node, ExpansionBranches, no_branch, branch, plain_tree}
 use Rattle.proof_text.specs.declared.texts.ProofText.{ProofText}
 use Rattle.proof_text.specs.Forms.{tree_form, mating_form}
@@ -63,6 +65,18 @@ pub record IsTyped (p : Proof) : Type 0 where
 pub record HasProofNames (p : Proof) : Type 0 where
   pub formula : HasNames p.formula
   pub tree : TreeHasNames p.tree
+
+-- The bytes are what is written for this formula, tree and mating: their form with one space between members, none behind ( and none
+-- before ), and LF at the end. All names are names, and the numbers of the mating have 64 bits.
+pub record IsWrittenProof (bytes : List ℕ) (p : Proof) : Type 0 where
+  pub same : bytes ≡ written (proof_form p) ++ 10 ∷ []
+  pub names : HasProofNames p
+  pub numbers : IsWellSpelled (mating_form p.mating)
+
+-- the bytes are as many as are read at most, 1,048,576, and nested as deep at most, 5,000
+pub record IsWithinLimits (bytes : List ℕ) : Type 0 where
+  pub short : length bytes ≤ 1048576
+  pub shallow : depth_of bytes ≤ 5000
 
 -- the bytes are the text of this formula, tree and mating
 pub record IsProofText (bytes : List ℕ) (p : Proof) : Type 0 where

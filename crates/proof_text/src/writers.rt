@@ -6,7 +6,7 @@ ghost use Rattle.core_text.specs.CoreForms.{pair_form};
 ghost use Rattle.core_text.specs.Written.{written, written_others};
 ghost use Rattle.expansion_tree.specs.Trees.{plain_branches, plain_tree};
 ghost use Rattle.proof_text.specs.Forms.{branch_forms, mating_form, op_word, pair_forms, tree_form};
-ghost use Rattle.proof_text.specs.Texts.{BranchesHaveNames, HasProofNames, IsProofText, IsTyped, TreeHasNames, plain_proof, proof_form};
+ghost use Rattle.proof_text.specs.Texts.{BranchesHaveNames, HasProofNames, IsProofText, IsTyped, IsWrittenProof, TreeHasNames, plain_proof, proof_form};
 
 use crate::texts::ProofText;
 use core_text::writers::{append_name, append_number, append_term};
@@ -143,6 +143,7 @@ fn append_proof(alloc: Global, out: &mut Text, proof: &ProofText) -> Result<(), 
 pub fn write_proof(alloc: Global, proof: &ProofText) -> Result<Text, AllocError>
     ensures read { IsTyped (plain_proof proof.now) → nesting (proof_form (plain_proof proof.now)) ≤ 5000 → IfOk result (λ text. IsProofText text (plain_proof proof.now)) }
     ensures text { IfOk result (λ text. text ≡ written (proof_form (plain_proof proof.now)) ++ 10 ∷ []) }
+    ensures written { IfOk result (λ text. IsWrittenProof text (plain_proof proof.now)) }
 {
     let mut out = Text::new(alloc);
     append_proof(alloc, &mut out, proof)?;
