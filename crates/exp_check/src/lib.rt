@@ -4,3 +4,4 @@
 pub mod accepted;
 pub mod checks;
 pub mod faults;
+pub mod laws;
