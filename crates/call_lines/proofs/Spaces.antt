@@ -1,5 +1,5 @@
 -- Lines with a space.
-use Rattle.std.proofs.Common.{◌≡◌, ◌↔◌, ◌⊎◌, inl, inr, ℕ, ◌<◌, List, ◌∷◌, length, Option, Some, None, MatchOption, eqb, true, refl, ap, arith}
+use Rattle.std.proofs.Common.{◌≡◌, ◌↔◌, ◌⊎◌, inl, inr, ℕ, ◌<◌, List, ◌∷◌, length, Option, Some, None, MatchOption, eqb, refl, ap, arith}
 use Rattle.std.specs.List.{after_first, before_first, position_or_len}
 use Rattle.std.proofs.lemmas.Bool.{eqb-true}
 use Rattle.std.proofs.lemmas.List.Sums.{fails_before_first, passes_at_first}
