@@ -7,8 +7,9 @@ use Rattle.hol_terms.specs.Terms.{Term, negation, conjunction, disjunction, impl
 use Rattle.hol_terms.specs.Truth.{Holds, Follows, IsAtom}
 use Rattle.hol_terms.proofs.Truths.{member_decided}
 use Rattle.rulep_decide.specs.TruthValues.{truth_value, are_true}
-use Rattle.rulep_decide.specs.Circuits.{Node, atom, always, opposite, both, demand, node_at, node_value, value, same_value, meets, IsNew, IsCircuit, Fits, IsValuation, true_atom, true_atoms}
-use Rattle.rulep_decide.specs.Verdicts.{AreDistinct, Falsifies}
+use Rattle.rulep_decide.specs.Circuits.{Node, atom, always, opposite, both, demand, node_at, node_value, value, same_value, meets, HasAtomsAmong, IsNew, IsCircuit, Fits, IsValuation, true_atom, true_atoms}
+use Rattle.rulep_decide.specs.Verdicts.{AreDistinct, Falsifies, atoms_among}
+use Rattle.rulep_decide.proofs.Bringing.{node_among}
 use Rattle.rulep_decide.proofs.Nodes.{at_newest, at_older, newest_or_older, value_newest, value_older}
 
 -- the demands of the premises
@@ -263,9 +264,9 @@ distinct_push (x ∷ xs) a h none = (
   distinct_push xs a h.1 (λ p. none (inr p)),
 )
 
-all_of : (xs : List Term) → ((a : Term) → StandsIn a xs → IsAtom a) → All IsAtom xs
-all_of [] h = All-nil IsAtom
-all_of (x ∷ xs) h = All-cons IsAtom x xs (h x (inl refl)) (all_of xs (λ a p. h a (inr p)))
+all_of : (P : Term → Type 0) (xs : List Term) → ((a : Term) → StandsIn a xs → P a) → All P xs
+all_of P [] h = All-nil P
+all_of P (x ∷ xs) h = All-cons P x xs (h x (inl refl)) (all_of P xs (λ a p. h a (inr p)))
 
 -- the true atoms
 
@@ -404,14 +405,17 @@ not_true false e h = cc
 
 pub falsified_by_search : (nodes : List Node) (given : List Term) (conclusion : Term) (w : ℕ → Bool) → IsCircuit nodes
     → ((is_true : Term → Bool) → meets is_true nodes ≡ (not (truth_value is_true conclusion) && are_true is_true given))
-    → IsValuation w nodes → Falsifies (true_atoms w nodes (length nodes)) given conclusion
-falsified_by_search nodes given conclusion w circuit demands fits =
+    → HasAtomsAmong (atoms_among given conclusion) nodes → IsValuation w nodes → Falsifies (true_atoms w nodes (length nodes)) given conclusion
+falsified_by_search nodes given conclusion w circuit demands among fits =
     let l = true_atoms w nodes (length nodes) in
     let v = is_member l in
     let met = valuation_meets v w nodes circuit fits (λ i a e. member_value w nodes i a circuit e) in
     let parts = both_true (not (truth_value v conclusion)) (are_true v given) (sym (demands v) ∙ met) in
     record {
-      atoms = all_of l (λ a h. let p = stands_atom w nodes (length nodes) a h in node_is_atom nodes p.0 a circuit p.2);
+      atoms = all_of IsAtom l (λ a h. let p = stands_atom w nodes (length nodes) a h in node_is_atom nodes p.0 a circuit p.2);
+      occurring =
+          all_of (Contains (atoms_among given conclusion)) l
+          (λ a h. let p = stands_atom w nodes (length nodes) a h in node_among (atoms_among given conclusion) nodes p.0 a among p.2);
       distinct = distinct_atoms w nodes (length nodes) circuit;
       given_hold = true_all l given parts.1;
       conclusion_fails = λ h. not_true (truth_value v conclusion) parts.0 ((holds_value l conclusion).0 h);

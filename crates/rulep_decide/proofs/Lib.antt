@@ -1,4 +1,5 @@
 pub mod Adding
+pub mod Bringing
 pub mod Deciding
 pub mod Forcing
 pub mod Indexing

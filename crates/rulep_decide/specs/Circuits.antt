@@ -1,6 +1,6 @@
 -- Formulas as a list of numbered nodes, in which equal atoms are one node. A node's number is the number of the nodes that were
 -- there before it, and its parts have lower numbers. The lists here have the newest node first.
-use Rattle.std.specs.Prelude.{ℕ, zero, suc, ◌<◌, ◌≤◌, List, [], ◌∷◌, ◌++◌, length, map, reverse, Bool, true, false, not, ◌&&◌, eqb, cond, ◌≡◌, ◌≢◌, Some, None, nat_eq}
+use Rattle.std.specs.Prelude.{ℕ, zero, suc, ◌<◌, ◌≤◌, List, [], ◌∷◌, ◌++◌, length, map, reverse, Bool, true, false, not, ◌&&◌, eqb, cond, ◌≡◌, ◌≢◌, Some, None, nat_eq, All, Contains}
 use Rattle.std.specs.HashMap.{HashMap, get}
 use Rattle.std.specs.declared.option.Option.{Option}
 use Rattle.hol_terms.specs.Terms.{Term, plain_term}
@@ -94,6 +94,19 @@ pub record Adds (old new : List Node) (i : ℕ) (meaning : (Term → Bool) → B
   pub keeps : (is_true : Term → Bool) (j : ℕ) → j < length old → value is_true new j ≡ value is_true old j
   pub demands : (is_true : Term → Bool) → meets is_true new ≡ meets is_true old
   pub has_value : (is_true : Term → Bool) → value is_true new i ≡ meaning is_true
+
+-- the atoms of the nodes are among these
+abbrev pub HasAtomsAmong : List Term → List Node → Type 0
+HasAtomsAmong atoms [] = Unit {0}
+HasAtomsAmong atoms (atom a ∷ rest) = Contains atoms a × HasAtomsAmong atoms rest
+HasAtomsAmong atoms (always ∷ rest) = HasAtomsAmong atoms rest
+HasAtomsAmong atoms (opposite i ∷ rest) = HasAtomsAmong atoms rest
+HasAtomsAmong atoms (both i j ∷ rest) = HasAtomsAmong atoms rest
+HasAtomsAmong atoms (demand i b ∷ rest) = HasAtomsAmong atoms rest
+
+-- the new nodes have no atoms but the old ones and those that were brought
+pub record Brings (old new : List Node) (brought : List Term) : Type 0 where
+  pub among : (atoms : List Term) → All (Contains atoms) brought → HasAtomsAmong atoms old → HasAtomsAmong atoms new
 
 -- values of all nodes that fit those of their parts, and meet the demands
 

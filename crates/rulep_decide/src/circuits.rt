@@ -2,8 +2,8 @@
 
 ghost use Rattle.std.specs.Prelude.{◌≡◌, ◌↔◌, ◌∷◌, ◌<◌, ◌-◌, ◌&&◌, ◌||◌, [], Bool, IfOk, IsTrue, MatchOption, OnOk, Some, length, not, slice_get, true, false};
 ghost use Rattle.hol_terms.specs.Terms.{Term, plain_term};
-ghost use Rattle.hol_terms.specs.Truth.{IsAtom};
-ghost use Rattle.rulep_decide.specs.Circuits.{Adds, HasPartsBelow, IsCircuit, IsNew, IsNumbered, atom, meets, node_at, nodes_of, plain_gate, same_value, value};
+ghost use Rattle.hol_terms.specs.Truth.{IsAtom, atoms_of};
+ghost use Rattle.rulep_decide.specs.Circuits.{Adds, Brings, HasPartsBelow, IsCircuit, IsNew, IsNumbered, atom, meets, node_at, nodes_of, plain_gate, same_value, value};
 ghost use Rattle.rulep_decide.specs.TruthValues.{truth_value};
 
 use crate::fingerprints::fingerprint;
@@ -71,55 +71,62 @@ impl<'a> Circuit<'a> {
     }
 
     /// The node that is always true.
-    #[tactic(auto, using(crate::proofs::Adding::adds_always, crate::proofs::Indexing::numbered_always))]
+    #[tactic(auto, using(crate::proofs::Adding::adds_always, crate::proofs::Indexing::numbered_always, crate::proofs::Bringing::brings_always))]
     fn truth(&mut self) -> Result<u64, AllocError>
         requires { IsNumbered self.old }
         ensures numbered { OnOk result (IsNumbered self.new) }
         ensures adds { IfOk result (λ i. Adds (nodes_of self.old) (nodes_of self.new) i (λ is_true. true)) }
+        ensures brings { OnOk result (Brings (nodes_of self.old) (nodes_of self.new) []) }
     {
         self.put(Gate::Always)
     }
 
     /// The negation of node `i`.
-    #[tactic(auto, using(crate::proofs::Adding::adds_opposite, crate::proofs::Indexing::numbered_opposite))]
+    #[tactic(auto, using(crate::proofs::Adding::adds_opposite, crate::proofs::Indexing::numbered_opposite, crate::proofs::Bringing::brings_opposite))]
     fn negation(&mut self, i: u64) -> Result<u64, AllocError>
         requires numbered { IsNumbered self.old }
         requires before { i < length (nodes_of self.old) }
         ensures numbered { OnOk result (IsNumbered self.new) }
         ensures adds { IfOk result (λ k. Adds (nodes_of self.old) (nodes_of self.new) k (λ is_true. not (value is_true (nodes_of self.old) i))) }
+        ensures brings { OnOk result (Brings (nodes_of self.old) (nodes_of self.new) []) }
     {
         self.put(Gate::Not(i))
     }
 
     /// The conjunction of nodes `i` and `j`.
-    #[tactic(auto, using(crate::proofs::Adding::adds_both, crate::proofs::Indexing::numbered_both))]
+    #[tactic(auto, using(crate::proofs::Adding::adds_both, crate::proofs::Indexing::numbered_both, crate::proofs::Bringing::brings_both))]
     fn conjunction(&mut self, i: u64, j: u64) -> Result<u64, AllocError>
         requires numbered { IsNumbered self.old }
         requires first { i < length (nodes_of self.old) }
         requires second { j < length (nodes_of self.old) }
         ensures numbered { OnOk result (IsNumbered self.new) }
         ensures adds { IfOk result (λ k. Adds (nodes_of self.old) (nodes_of self.new) k (λ is_true. value is_true (nodes_of self.old) i && value is_true (nodes_of self.old) j)) }
+        ensures brings { OnOk result (Brings (nodes_of self.old) (nodes_of self.new) []) }
     {
         self.put(Gate::And(i, j))
     }
 
     /// The node that is always false.
+    #[tactic(auto, using(crate::proofs::Bringing::brings_none))]
     fn falsehood(&mut self) -> Result<u64, AllocError>
         requires { IsNumbered self.old }
         ensures numbered { OnOk result (IsNumbered self.new) }
         ensures adds { IfOk result (λ i. Adds (nodes_of self.old) (nodes_of self.new) i (λ is_true. false)) }
+        ensures brings { OnOk result (Brings (nodes_of self.old) (nodes_of self.new) []) }
     {
         let i = self.truth()?;
         self.negation(i)
     }
 
     /// The disjunction of nodes `i` and `j`: not both are false.
+    #[tactic(auto, using(crate::proofs::Bringing::brings_none))]
     fn disjunction(&mut self, i: u64, j: u64) -> Result<u64, AllocError>
         requires numbered { IsNumbered self.old }
         requires first { i < length (nodes_of self.old) }
         requires second { j < length (nodes_of self.old) }
         ensures numbered { OnOk result (IsNumbered self.new) }
         ensures adds { IfOk result (λ k. Adds (nodes_of self.old) (nodes_of self.new) k (λ is_true. value is_true (nodes_of self.old) i || value is_true (nodes_of self.old) j)) }
+        ensures brings { OnOk result (Brings (nodes_of self.old) (nodes_of self.new) []) }
     {
         let no_first = self.negation(i)?;
         let no_second = self.negation(j)?;
@@ -128,12 +135,14 @@ impl<'a> Circuit<'a> {
     }
 
     /// The implication from node `i` to node `j`: not the first without the second.
+    #[tactic(auto, using(crate::proofs::Bringing::brings_none))]
     fn implication(&mut self, i: u64, j: u64) -> Result<u64, AllocError>
         requires numbered { IsNumbered self.old }
         requires first { i < length (nodes_of self.old) }
         requires second { j < length (nodes_of self.old) }
         ensures numbered { OnOk result (IsNumbered self.new) }
         ensures adds { IfOk result (λ k. Adds (nodes_of self.old) (nodes_of self.new) k (λ is_true. not (value is_true (nodes_of self.old) i) || value is_true (nodes_of self.old) j)) }
+        ensures brings { OnOk result (Brings (nodes_of self.old) (nodes_of self.new) []) }
     {
         let no_second = self.negation(j)?;
         let first_alone = self.conjunction(i, no_second)?;
@@ -185,13 +194,14 @@ impl<'a> Circuit<'a> {
     }
 
     /// The node of an atom that is no node yet.
-    #[tactic(auto, using(crate::proofs::Adding::adds_atom, crate::proofs::Indexing::numbered_atom))]
+    #[tactic(auto, using(crate::proofs::Adding::adds_atom, crate::proofs::Indexing::numbered_atom, crate::proofs::Bringing::brings_atom))]
     fn put_atom(&mut self, t: &'a Tm) -> Result<u64, AllocError>
         requires numbered { IsNumbered self.old }
         requires is_atom { IsAtom (plain_term t.now) }
         requires is_new { IsNew (plain_term t.now) (nodes_of self.old) }
         ensures numbered { OnOk result (IsNumbered self.new) }
         ensures adds { IfOk result (λ i. Adds (nodes_of self.old) (nodes_of self.new) i (λ is_true. is_true (plain_term t.now))) }
+        ensures brings { OnOk result (Brings (nodes_of self.old) (nodes_of self.new) (plain_term t.now ∷ [])) }
     {
         let number = self.put(Gate::Atom(t))?;
         match self.places.insert(fingerprint(t), number) {
@@ -201,11 +211,13 @@ impl<'a> Circuit<'a> {
     }
 
     /// The node of an atom, which is added where it isn't there.
+    #[tactic(auto, using(crate::proofs::Bringing::brings_same))]
     fn atom(&mut self, t: &'a Tm) -> Result<u64, AllocError>
         requires numbered { IsNumbered self.old }
         requires is_atom { IsAtom (plain_term t.now) }
         ensures numbered { OnOk result (IsNumbered self.new) }
         ensures adds { IfOk result (λ i. Adds (nodes_of self.old) (nodes_of self.new) i (λ is_true. is_true (plain_term t.now))) }
+        ensures brings { OnOk result (Brings (nodes_of self.old) (nodes_of self.new) (plain_term t.now ∷ [])) }
     {
         match self.find_atom(t) {
             Some(i) => Ok(i),
@@ -214,10 +226,12 @@ impl<'a> Circuit<'a> {
     }
 
     /// The node of a formula, which is added with all its parts.
+    #[tactic(auto, using(crate::proofs::Bringing::brings_negation, crate::proofs::Bringing::brings_conjunction, crate::proofs::Bringing::brings_disjunction, crate::proofs::Bringing::brings_implication, crate::proofs::Bringing::brings_truth, crate::proofs::Bringing::brings_falsehood, crate::proofs::Bringing::brings_lone_atom))]
     pub fn add(&mut self, t: &'a Tm) -> Result<u64, AllocError>
         requires { IsNumbered self.old }
         ensures numbered { OnOk result (IsNumbered self.new) }
         ensures adds { IfOk result (λ i. Adds (nodes_of self.old) (nodes_of self.new) i (λ is_true. truth_value is_true (plain_term t.now))) }
+        ensures brings { OnOk result (Brings (nodes_of self.old) (nodes_of self.new) (atoms_of (plain_term t.now))) }
     {
         match shape_of(t) {
             Shape::Negation(part) => {
@@ -246,11 +260,12 @@ impl<'a> Circuit<'a> {
     }
 
     /// A formula is added, and the demand that it has the truth value.
-    #[tactic(auto, using(crate::proofs::Adding::demanded, crate::proofs::Indexing::numbered_demand))]
+    #[tactic(auto, using(crate::proofs::Adding::demanded, crate::proofs::Indexing::numbered_demand, crate::proofs::Bringing::brings_demand))]
     pub fn demand(&mut self, t: &'a Tm, wanted: bool) -> Result<(), AllocError>
         requires { IsNumbered self.old }
         ensures numbered { OnOk result (IsNumbered self.new) }
         ensures demands { OnOk result ((is_true : Term → Bool) → meets is_true (nodes_of self.new) ≡ (same_value (truth_value is_true (plain_term t.now)) wanted && meets is_true (nodes_of self.old))) }
+        ensures brings { OnOk result (Brings (nodes_of self.old) (nodes_of self.new) (atoms_of (plain_term t.now))) }
     {
         let node = self.add(t)?;
         self.put(Gate::Demand(node, wanted))?;

@@ -2,10 +2,10 @@
 
 ghost use Rattle.std.specs.Prelude.{◌≡◌, ◌<◌, ◌++◌, ◌&&◌, Bool, IfOk, OnOk, length, not};
 ghost use Rattle.hol_terms.specs.Terms.{Term, plain_term};
-ghost use Rattle.rulep_decide.specs.Circuits.{IsNumbered, IsValuation, meets, node_at, nodes_of, true_atom, true_atoms};
+ghost use Rattle.rulep_decide.specs.Circuits.{HasAtomsAmong, IsNumbered, IsValuation, meets, node_at, nodes_of, true_atom, true_atoms};
 ghost use Rattle.rulep_decide.specs.Searches.{assigned};
 ghost use Rattle.rulep_decide.specs.TruthValues.{are_true, truth_value};
-ghost use Rattle.rulep_decide.specs.Verdicts.{IsVerdict};
+ghost use Rattle.rulep_decide.specs.Verdicts.{IsVerdict, atoms_among};
 
 use crate::circuits::{Circuit, Gate};
 use crate::premises::Premises;
@@ -14,7 +14,7 @@ use hol_terms::lists::Terms;
 use hol_terms::terms::{Tm, copy};
 use std::alloc::{AllocError, Global};
 
-/// The formula follows, or the true atoms of an assignment that makes the premises hold and the conclusion fail, each once.
+/// The formula follows, or the true atoms of an assignment that makes the premises hold and the conclusion fail: atoms of these, each once.
 #[derive(Drop)]
 pub enum Verdict {
     Follows,
@@ -22,7 +22,7 @@ pub enum Verdict {
 }
 
 /// The circuit of the premises, which are to hold, and of the conclusion, which is to fail.
-#[tactic(auto, using(crate::proofs::Deciding::demands_none, crate::proofs::Deciding::demands_more, crate::proofs::Deciding::demands_all))]
+#[tactic(auto, using(crate::proofs::Deciding::demands_none, crate::proofs::Deciding::demands_more, crate::proofs::Deciding::demands_all, crate::proofs::Bringing::premise_among, crate::proofs::Bringing::conclusion_among))]
 fn refutation<'a>(
     alloc: Global,
     premises: &'a Premises,
@@ -30,6 +30,7 @@ fn refutation<'a>(
 ) -> Result<Circuit<'a>, AllocError>
     ensures numbered { IfOk result (λ circuit. IsNumbered circuit) }
     ensures demands { IfOk result (λ circuit. (is_true : Term → Bool) → meets is_true (nodes_of circuit) ≡ (not (truth_value is_true (plain_term conclusion.now)) && are_true is_true premises.now)) }
+    ensures atoms { IfOk result (λ circuit. HasAtomsAmong (atoms_among premises.now (plain_term conclusion.now)) (nodes_of circuit)) }
 {
     let mut circuit = Circuit::new(alloc);
     for i in 0..premises.len() {

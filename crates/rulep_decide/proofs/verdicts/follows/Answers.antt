@@ -16,4 +16,4 @@ returns c =
     let found = rw c.in-Some.is at c.in_ok-find_values.ensures in
     subst (λ (atoms : List Term). Falsifies atoms c.args.premises.now (plain_term c.args.conclusion.now)) (sym c.in_ok-atoms-in-Some.ensures)
     (falsified_by_search (nodes_of c.in_ok-circuit.circuit) c.args.premises.now (plain_term c.args.conclusion.now) (assigned c.in-Some.values.items)
-    c.in_ok-circuit.ensures.numbered.in_order c.in_ok-circuit.ensures.demands found.1)
+    c.in_ok-circuit.ensures.numbered.in_order c.in_ok-circuit.ensures.demands c.in_ok-circuit.ensures.atoms found.1)
