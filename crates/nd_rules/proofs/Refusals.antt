@@ -48,7 +48,7 @@ falsified_excluded lines l (generalization d a) atoms h c = absurd h
 falsified_excluded lines l (existential d u) atoms h c = absurd h
 falsified_excluded lines l (choice e k d a) atoms h c = absurd h
 falsified_excluded lines l (conversion d) atoms h c = absurd h
-falsified_excluded lines l (assignments ds) atoms h c = h.1 (c atoms h.0)
+falsified_excluded lines l (assignments ds) atoms h c = h.conclusion_fails (c atoms h.given_hold)
 falsified_excluded lines l planned atoms h c = absurd h
 
 pub refusal_excludes : (lines : List DeductionLine) (l : DeductionLine) (e : RuleFault) → IsFirstRefusal lines l e → e ≢ Memory → IsJustified lines l → ⊥

@@ -5,8 +5,9 @@ use Rattle.hol_terms.specs.Terms.{SimpleType, Term, plain_term, free, constant, 
 use Rattle.hol_terms.specs.Typing.{Typed}
 use Rattle.hol_terms.specs.Indices.{instance_of}
 use Rattle.hol_terms.specs.FreeVariables.{IsFree, IsBodyOver}
-use Rattle.hol_terms.specs.Truth.{Holds, Follows}
+use Rattle.hol_terms.specs.Truth.{Follows}
 use Rattle.hol_conv.specs.Conversion.{Conv, IsNormalOf}
+use Rattle.rulep_decide.specs.Verdicts.{Falsifies}
 use Rattle.nd_rules.specs.Lines.{Justification, hypothesis, deduction, universal_instance, generalization, existential, choice, conversion, assignments, planned, DeductionLine, named_by, line_with, IsLine}
 use Rattle.nd_rules.specs.declared.faults.RuleFault.{RuleFault}
 use Rattle.nd_rules.specs.declared.faults.RuleFault.TheVariants.{Memory, NoLine, NotEarlier, Shape, Hyps, VariableFree, NotFollows, NotConvertible, WrongType}
@@ -212,7 +213,7 @@ pub record IsFirstFree (lines : List DeductionLine) (l : DeductionLine) (k : ℕ
   pub none_before : All (λ n. IsFreeIn lines l n → ⊥) before
   pub free : IsFreeIn lines l k
 
--- the assignment makes the cited formulas hold, and l not
+-- these are the true atoms of an assignment that makes the cited formulas hold, and l not
 abbrev pub IsFalsified : List DeductionLine → DeductionLine → Justification → List Term → Type 0
 IsFalsified lines l hypothesis true_atoms = ⊥
 IsFalsified lines l (deduction d h) true_atoms = ⊥
@@ -221,7 +222,7 @@ IsFalsified lines l (generalization d a) true_atoms = ⊥
 IsFalsified lines l (existential d t) true_atoms = ⊥
 IsFalsified lines l (choice e h d a) true_atoms = ⊥
 IsFalsified lines l (conversion d) true_atoms = ⊥
-IsFalsified lines l (assignments ds) true_atoms = All (Holds true_atoms) (formulas_of lines l ds) × (Holds true_atoms l.formula → ⊥)
+IsFalsified lines l (assignments ds) true_atoms = Falsifies true_atoms (formulas_of lines l ds) l.formula
 IsFalsified lines l planned true_atoms = ⊥
 
 -- the long normal forms of the cited line and of l differ

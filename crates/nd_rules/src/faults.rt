@@ -19,7 +19,8 @@ pub enum RuleFault {
     Hyps,
     /// The variable of the rule is free in the line of this number.
     VariableFree(u64),
-    /// The line doesn't follow: where exactly these atoms are true, the cited lines hold and the line doesn't.
+    /// The line doesn't follow: where exactly these atoms of the cited lines and of the line are true, the cited lines hold and the line
+    /// doesn't. Each stands once.
     NotFollows(Terms),
     /// The line isn't convertible with the cited one: the long normal forms of the cited line and of the line.
     NotConvertible(Tm, Tm),
