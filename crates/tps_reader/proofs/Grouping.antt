@@ -1,7 +1,7 @@
 -- The depth that is counted is that of the groups.
 use Rattle.std.proofs.Common.{◌≡◌, ℕ, ◌+◌, ◌≤◌, max, List, [], ◌∷◌, ◌++◌, refl, sym, ◌∙◌, ap, ap₂, subst, arith, append_assoc, inl, inr}
 use Rattle.tps_reader.specs.Depth.{Part, part, before_parts, depth_of, first_depth, parts_of, with_opening, with_own}
-use Rattle.tps_reader.specs.Groups.{Group, HasDepth, no_more, own_token, inner_group, open_group, IsClosed, IsClosing, IsGroup, IsOpening, IsOwn, IsWhole, deepest, group_depth, group_tokens, own_count}
+use Rattle.tps_reader.specs.Groups.{Group, HasDepth, IsWithinDepth, no_more, own_token, inner_group, open_group, IsClosed, IsClosing, IsGroup, IsOpening, IsOwn, IsWhole, deepest, group_depth, group_tokens, own_count}
 use Rattle.tps_reader.specs.Tokens.{Sign, open_square, close_square, open_round, close_round, dot, tilde, semicolon, number, word, Token, token}
 
 own_parts : (t : Token) (ts : List Token) → IsOwn t → parts_of (t ∷ ts) ≡ with_own (parts_of ts)
@@ -141,3 +141,12 @@ has_depth ts depth e = let w = whole_in ts (cut_all ts) in (w.0, w.1, e ∙ dept
 
 pub only_depth : (ts : List Token) (depth : ℕ) → depth ≡ depth_of ts → (other : ℕ) → HasDepth ts other → other ≡ depth
 only_depth ts depth e other h = h.2 ∙ sym (depth_is ts h.0 h.1) ∙ sym e
+
+pub within_depth : (ts : List Token) (most : ℕ) → depth_of ts ≤ most → IsWithinDepth ts most
+within_depth ts most h = (depth_of ts, has_depth ts (depth_of ts) refl, h)
+
+pub counted_within : (ts : List Token) (most : ℕ) → IsWithinDepth ts most → depth_of ts ≤ most
+counted_within ts most h =
+    let same : h.0 ≡ depth_of ts = only_depth ts (depth_of ts) refl h.0 h.1 in
+    let low : h.0 ≤ most = h.2 in
+    omega (arith, same, low)

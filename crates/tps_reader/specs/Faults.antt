@@ -1,7 +1,7 @@
 -- Why a text is refused.
-use Rattle.std.specs.Prelude.{◌≡◌, ◌⊎◌, ℕ, ◌<◌, ◌≤◌, List, length, IsUtf8}
-use Rattle.tps_reader.specs.Depth.{depth_of}
+use Rattle.std.specs.Prelude.{◌≡◌, ◌⊎◌, ℕ, ◌<◌, List, length, IsUtf8}
 use Rattle.tps_reader.specs.Grammar.{IsFormula, OnlyBegins, StopsAt}
+use Rattle.tps_reader.specs.Groups.{HasDepth, IsWithinDepth}
 use Rattle.tps_reader.specs.Raws.{RawFormula}
 use Rattle.tps_reader.specs.Tokens.{AreTokensOf, IsBadCharacter, Token}
 use Rattle.tps_reader.specs.declared.faults.RawFault.{RawFault}
@@ -25,13 +25,13 @@ IsPhraseFault ts last Memory = Unit {0}
 
 -- the text is a formula text of depth at most 1,000, which is this raw formula
 abbrev pub IsFormulaText : List ℕ → RawFormula → Type 0
-IsFormulaText bytes v = (ts : List Token) × AreTokensOf bytes ts × (depth_of ts ≤ 1000) × IsFormula ts v
+IsFormulaText bytes v = (ts : List Token) × AreTokensOf bytes ts × IsWithinDepth ts 1000 × IsFormula ts v
 
 -- The fault of a text that is no formula text. That no token begins somewhere comes before the depth, and the depth before tokens that
 -- make no phrase.
 abbrev pub IsRawFault : List ℕ → RawFault → Type 0
 IsRawFault bytes NotUtf8 = IsUtf8 bytes → ⊥
 IsRawFault bytes (BadCharacter place) = IsBadCharacter bytes place
-IsRawFault bytes (TooDeep depth) = (ts : List Token) × AreTokensOf bytes ts × (1000 < depth_of ts) × (depth ≡ depth_of ts)
-IsRawFault bytes (Unexpected place) = (ts : List Token) × AreTokensOf bytes ts × (depth_of ts ≤ 1000) × IsPhraseFault ts (length bytes) (Unexpected place)
+IsRawFault bytes (TooDeep depth) = (ts : List Token) × AreTokensOf bytes ts × HasDepth ts depth × (1000 < depth)
+IsRawFault bytes (Unexpected place) = (ts : List Token) × AreTokensOf bytes ts × IsWithinDepth ts 1000 × IsPhraseFault ts (length bytes) (Unexpected place)
 IsRawFault bytes Memory = Unit {0}

@@ -1,6 +1,6 @@
 -- The groups of a list of tokens, as a tree. A group is the whole list, or what stands between an opening square bracket and its closing
 -- one. A bracket that isn't closed is closed at the end, and a closing bracket with none open ends the whole.
-use Rattle.std.specs.Prelude.{◌≡◌, ◌⊎◌, ℕ, ◌+◌, max, List, [], ◌∷◌, ◌++◌}
+use Rattle.std.specs.Prelude.{◌≡◌, ◌⊎◌, ℕ, ◌+◌, ◌≤◌, max, List, [], ◌∷◌, ◌++◌}
 use Rattle.tps_reader.specs.Tokens.{Sign, open_square, close_square, open_round, close_round, dot, tilde, semicolon, number, word, Token, token}
 
 -- What a group holds: nothing more; a token that is no square bracket, and then more; a group in brackets, and then more; or a bracket
@@ -66,3 +66,7 @@ group_depth g = own_count g + deepest g
 -- how deep the groups of the tokens stand in each other
 abbrev pub HasDepth : List Token → ℕ → Type 0
 HasDepth ts depth = (g : Group) × IsWhole ts g × (depth ≡ group_depth g)
+
+-- the groups of the tokens stand no deeper in each other than so much
+abbrev pub IsWithinDepth : List Token → ℕ → Type 0
+IsWithinDepth ts most = (depth : ℕ) × HasDepth ts depth × (depth ≤ most)

@@ -4,6 +4,7 @@ pub mod Faults
 pub mod Grammar
 pub mod Lexed
 pub mod Groups
+pub mod Laws
 pub mod Machine
 pub mod Parsing
 pub mod Raws

@@ -5,6 +5,7 @@ mod cuts;
 mod depths;
 pub mod faults;
 mod frames;
+pub mod laws;
 pub mod lexemes;
 pub mod phrases;
 pub mod raws;
