@@ -37,3 +37,4 @@ refused_line (line_fault.Raw (raw_fault.TooDeep depth)) = codes "REFUSED DEEP"
 refused_line (line_fault.Raw (raw_fault.Unexpected place)) = codes "REFUSED SYNTAX " ++ decimal place
 refused_line (line_fault.Raw raw_fault.Memory) = []
 refused_line line_fault.Unknown = codes "REFUSED COMMAND"
+refused_line line_fault.Memory = []

@@ -1,7 +1,6 @@
 -- Scripts, and the replies to them.
 use Rattle.std.specs.Prelude.{◌≡◌, ◌≢◌, ◌⊎◌, ℕ, List, [], ◌∷◌, ◌++◌, None}
 use Rattle.etps_session.specs.Replays.{SessionState}
-use Rattle.tps_reader.specs.declared.faults.RawFault.TheVariants as raw_fault
 use Rattle.script_text.specs.Commands.{ScriptRequest}
 use Rattle.script_text.specs.Lines.{IsCommandFault, IsCommandLine}
 use Rattle.script_text.specs.declared.faults.CommandFault.{CommandFault}
@@ -17,7 +16,7 @@ IsCommandReply s line new out = (c : ScriptRequest) × IsCommandLine line c × R
 -- the line is that of none, which is told by its first fault, and changes nothing
 pub record IsFaultReply (s : SessionState) (line : List ℕ) (new : SessionState) (out : List ℕ) : Type 0 where
   pub fault : CommandFault
-  pub told : fault ≢ line_fault.Raw raw_fault.Memory
+  pub told : fault ≢ line_fault.Memory
   pub first : IsCommandFault line fault
   pub kept : new ≡ s
   pub reply : out ≡ refused_line fault

@@ -99,7 +99,7 @@ pub(crate) fn refused(alloc: Global, refusal: &Refusal) -> Result<Text, AllocErr
 
 /// The reply to a line that isn't that of a command. An error comes only where memory is wanting, or was.
 pub(crate) fn refused_line(alloc: Global, fault: CommandFault) -> Result<Text, AllocError>
-    ensures told { OnOk result (fault ≢ CommandFault.Raw RawFault.Memory) }
+    ensures told { OnOk result (fault ≢ CommandFault.Memory) }
     ensures text { IfOk result (λ text. text ≡ refused_line_of fault) }
 {
     match fault {
@@ -117,5 +117,6 @@ pub(crate) fn refused_line(alloc: Global, fault: CommandFault) -> Result<Text, A
         ),
         CommandFault::Raw(RawFault::Memory) => Err(AllocError),
         CommandFault::Unknown => said(alloc, b"REFUSED COMMAND"),
+        CommandFault::Memory => Err(AllocError),
     }
 }

@@ -11,7 +11,7 @@ use Rattle.script_text.specs.Lines.{IsTokensFault}
 use Rattle.script_text.specs.Tails.{BeginsNoNumber, HasBody, HasTail, IsFaultIn, NoSemicolon, tail_of}
 use Rattle.script_text.specs.Words.{numeral_count, word_text}
 use Rattle.script_text.specs.declared.faults.CommandFault.{CommandFault}
-use Rattle.script_text.specs.declared.faults.CommandFault.TheVariants.{Raw as InPhrase, Unknown}
+use Rattle.script_text.specs.declared.faults.CommandFault.TheVariants.{Raw as InPhrase, Unknown, Memory}
 use Rattle.script_text.specs.declared.words.CommandWord.{CommandWord}
 use Rattle.script_text.specs.declared.words.CommandWord.TheVariants as verb
 use Rattle.script_text.proofs.Leading.{Front, front_of, leads_all, leads_same}
@@ -198,6 +198,7 @@ known_fault k t ts last (InPhrase (raw_fault.TooDeep depth)) e h = h
 known_fault k t ts last (InPhrase (raw_fault.Unexpected place)) e h = ((k, e), h)
 known_fault k t ts last (InPhrase raw_fault.Memory) e h = h
 known_fault k t ts last Unknown e h = absurd h
+known_fault k t ts last Memory e h = tt
 
 -- tokens spell one thing at most
 pub one_command : (ts : List Token) (r q : ScriptRequest) → IsCommand ts r → IsCommand ts q → q ≡ r
@@ -222,10 +223,11 @@ unknown_none [] q h g = h
 unknown_none (t ∷ ts) q h (inl g) = let clash : t ∷ ts ≡ [] = g.0 in cc
 unknown_none (t ∷ ts) q h (inr g) = h g.0 g.1.2.0
 
-pub no_command : (ts : List Token) (last : ℕ) (fault : CommandFault) (q : ScriptRequest) → IsTokensFault ts last fault → fault ≢ InPhrase raw_fault.Memory → IsCommand ts q → ⊥
+pub no_command : (ts : List Token) (last : ℕ) (fault : CommandFault) (q : ScriptRequest) → IsTokensFault ts last fault → fault ≢ Memory → IsCommand ts q → ⊥
 no_command ts last (InPhrase raw_fault.NotUtf8) q h real g = h
 no_command ts last (InPhrase (raw_fault.BadCharacter place)) q h real g = h
 no_command ts last (InPhrase (raw_fault.TooDeep depth)) q h real g = h
 no_command ts last (InPhrase (raw_fault.Unexpected place)) q h real g = leaves_none IsLine ts last place h.1 (q, g)
-no_command ts last (InPhrase raw_fault.Memory) q h real g = real refl
+no_command ts last (InPhrase raw_fault.Memory) q h real g = h
 no_command ts last Unknown q h real g = unknown_none ts q h g
+no_command ts last Memory q h real g = real refl

@@ -5,20 +5,21 @@ use Rattle.tps_reader.specs.declared.faults.RawFault.TheVariants as raw_fault
 use Rattle.script_text.specs.Languages.{Begins, LeavesFirst, Stops}
 use Rattle.script_text.specs.Tails.{IsFaultIn}
 use Rattle.script_text.specs.declared.faults.CommandFault.{CommandFault}
-use Rattle.script_text.specs.declared.faults.CommandFault.TheVariants.{Raw as InPhrase, Unknown}
+use Rattle.script_text.specs.declared.faults.CommandFault.TheVariants.{Raw as InPhrase, Unknown, Memory}
 
 -- tokens that leave a language don't belong to it
 pub leaves_none : (L : List Token → Type 0) (ts : List Token) (last place : ℕ) → LeavesFirst L ts last place → L ts → ⊥
 leaves_none L ts last place (inl h) m = h.stops (h.after, subst L (h.parts ∙ sym (append_assoc h.before (h.t ∷ []) h.after)) m)
 leaves_none L ts last place (inr h) m = h.1.none m
 
-pub fault_none : (L : List Token → Type 0) (ts : List Token) (last : ℕ) (fault : CommandFault) → IsFaultIn L ts last fault → fault ≢ InPhrase raw_fault.Memory → L ts → ⊥
+pub fault_none : (L : List Token → Type 0) (ts : List Token) (last : ℕ) (fault : CommandFault) → IsFaultIn L ts last fault → fault ≢ Memory → L ts → ⊥
 fault_none L ts last (InPhrase raw_fault.NotUtf8) h real m = h
 fault_none L ts last (InPhrase (raw_fault.BadCharacter place)) h real m = h
 fault_none L ts last (InPhrase (raw_fault.TooDeep depth)) h real m = h
 fault_none L ts last (InPhrase (raw_fault.Unexpected place)) h real m = leaves_none L ts last place h m
-fault_none L ts last (InPhrase raw_fault.Memory) h real m = real refl
+fault_none L ts last (InPhrase raw_fault.Memory) h real m = h
 fault_none L ts last Unknown h real m = h
+fault_none L ts last Memory h real m = real refl
 
 -- a fault in one language is one in another, where each place is
 pub fault_map : (K L : List Token → Type 0) (xs ts : List Token) (last end : ℕ) → ((place : ℕ) → LeavesFirst K xs last place → LeavesFirst L ts end place) → (fault : CommandFault) → IsFaultIn K xs last fault → IsFaultIn L ts end fault
@@ -28,6 +29,7 @@ fault_map K L xs ts last end f (InPhrase (raw_fault.TooDeep depth)) h = h
 fault_map K L xs ts last end f (InPhrase (raw_fault.Unexpected place)) h = f place h
 fault_map K L xs ts last end f (InPhrase raw_fault.Memory) h = h
 fault_map K L xs ts last end f Unknown h = h
+fault_map K L xs ts last end f Memory h = h
 
 -- Behind these tokens, the one language has what the other has, among the lists that begin as the rest does.
 pub record Follows (L K : List Token → Type 0) (front rest : List Token) : Type 0 where

@@ -14,9 +14,8 @@ use Rattle.tps_reader.specs.Views.{plain_sign, plain_token, plain_tokens}
 use Rattle.tps_reader.specs.declared.lexemes.Lexeme.{Lexeme}
 use Rattle.script_text.specs.Grammar.{IsPhraseOf, IsVariableOf, first_place}
 use Rattle.script_text.specs.Languages.{Begins, LeavesFirst}
-use Rattle.script_text.specs.Tails.{HasTail, IsFaultIn, variable}
+use Rattle.script_text.specs.Tails.{HasTail, IsFaultIn, of_text, variable}
 use Rattle.script_text.specs.Variables.{is_whole, name_in, part_closed, read_next, read_on, whole_in}
-use Rattle.script_text.specs.declared.faults.CommandFault.TheVariants.{Raw as InPhrase}
 use Rattle.script_text.specs.declared.variables.Reading.{Reading}
 use Rattle.script_text.specs.declared.variables.Reading.TheVariants as reading
 use Rattle.script_text.proofs.Leaving.{stops_behind}
@@ -261,7 +260,7 @@ variable_phrase ts v h = (named h.0 h.1 h.2, h.3, h.4)
 pub variable_only : (ts : List Token) (v : RawFormula) → HasTail variable ts → ((w : RawFormula) → IsPhraseOf ts w → w ≡ v) → IsVariableOf ts v
 variable_only ts v h only = subst (IsVariableOf ts) (only h.0 (variable_phrase ts h.0 h.1)) h.1
 
-pub variable_memory : (ts : List Token) (last : ℕ) (fault : RawFault) → HasTail variable ts → (fault ≢ raw_fault.Memory → (w : RawFormula) → IsPhraseOf ts w → ⊥) → IsFaultIn (HasTail variable) ts last (InPhrase fault)
+pub variable_memory : (ts : List Token) (last : ℕ) (fault : RawFault) → HasTail variable ts → (fault ≢ raw_fault.Memory → (w : RawFormula) → IsPhraseOf ts w → ⊥) → IsFaultIn (HasTail variable) ts last (of_text fault)
 variable_memory ts last raw_fault.NotUtf8 h none = absurd (none (λ e. cc) h.0 (variable_phrase ts h.0 h.1))
 variable_memory ts last (raw_fault.BadCharacter place) h none = absurd (none (λ e. cc) h.0 (variable_phrase ts h.0 h.1))
 variable_memory ts last (raw_fault.TooDeep depth) h none = absurd (none (λ e. cc) h.0 (variable_phrase ts h.0 h.1))

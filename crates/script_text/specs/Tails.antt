@@ -9,7 +9,7 @@ use Rattle.tps_reader.specs.declared.faults.RawFault.TheVariants as raw_fault
 use Rattle.script_text.specs.Grammar.{IsPhraseOf, IsVariableOf, Leads}
 use Rattle.script_text.specs.Languages.{LeavesFirst}
 use Rattle.script_text.specs.declared.faults.CommandFault.{CommandFault}
-use Rattle.script_text.specs.declared.faults.CommandFault.TheVariants.{Raw as InPhrase, Unknown}
+use Rattle.script_text.specs.declared.faults.CommandFault.TheVariants.{Raw as InPhrase, Unknown, Memory}
 use Rattle.script_text.specs.declared.words.CommandWord.{CommandWord}
 use Rattle.script_text.specs.declared.words.CommandWord.TheVariants as verb
 
@@ -62,8 +62,9 @@ IsFaultIn L ts last (InPhrase raw_fault.NotUtf8) = ⊥
 IsFaultIn L ts last (InPhrase (raw_fault.BadCharacter place)) = ⊥
 IsFaultIn L ts last (InPhrase (raw_fault.TooDeep depth)) = ⊥
 IsFaultIn L ts last (InPhrase (raw_fault.Unexpected place)) = LeavesFirst L ts last place
-IsFaultIn L ts last (InPhrase raw_fault.Memory) = Unit {0}
+IsFaultIn L ts last (InPhrase raw_fault.Memory) = ⊥
 IsFaultIn L ts last Unknown = ⊥
+IsFaultIn L ts last Memory = Unit {0}
 
 -- no token says a number first
 abbrev pub BeginsNoNumber : List Token → Type 0
@@ -106,13 +107,21 @@ abbrev pub SemicolonFirst : List Token → Type 0
 SemicolonFirst [] = Unit {0}
 SemicolonFirst (t ∷ ts) = sign_of t ≡ semicolon
 
+-- the fault of a text that is the line or a part of it: want of memory is no fault of the text
+abbrev pub of_text : RawFault → CommandFault
+of_text raw_fault.NotUtf8 = InPhrase raw_fault.NotUtf8
+of_text (raw_fault.BadCharacter place) = InPhrase (raw_fault.BadCharacter place)
+of_text (raw_fault.TooDeep depth) = InPhrase (raw_fault.TooDeep depth)
+of_text (raw_fault.Unexpected place) = InPhrase (raw_fault.Unexpected place)
+of_text raw_fault.Memory = Memory
+
 -- the fault of a phrase, its place counted from the start of the line
 abbrev pub moved_fault : ℕ → RawFault → CommandFault
 moved_fault origin raw_fault.NotUtf8 = InPhrase raw_fault.NotUtf8
 moved_fault origin (raw_fault.BadCharacter place) = InPhrase (raw_fault.BadCharacter place)
 moved_fault origin (raw_fault.TooDeep depth) = InPhrase (raw_fault.TooDeep depth)
 moved_fault origin (raw_fault.Unexpected place) = InPhrase (raw_fault.Unexpected (origin + place))
-moved_fault origin raw_fault.Memory = InPhrase raw_fault.Memory
+moved_fault origin raw_fault.Memory = Memory
 
 -- the place of the fault, counted from the start of the line, has 64 bits
 abbrev pub FitsBehind : ℕ → RawFault → Type 0

@@ -9,7 +9,7 @@ ghost use Rattle.tps_reader.specs.Views.{plain_tokens};
 
 use crate::arguments::arguments;
 use crate::commands::ScriptCommand;
-use crate::faults::CommandFault;
+use crate::faults::{CommandFault, of_text};
 use crate::numerals::numerals;
 use crate::slices::behind;
 use crate::words::command_word;
@@ -45,11 +45,12 @@ pub fn read_command(alloc: Global, line: &[u8]) -> Result<ScriptCommand, Command
     ensures command { IfOk result (λ c. IsCommandLine line.now (plain_script c)) }
     ensures only { IfOk result (λ c. (other : ScriptRequest) → IsCommandLine line.now other → other ≡ plain_script c) }
     ensures fault { IfErr result (λ fault. IsCommandFault line.now fault) }
-    ensures none { IfErr result (λ fault. fault ≢ CommandFault.Raw RawFault.Memory → (other : ScriptRequest) → IsCommandLine line.now other → ⊥) }
+    ensures no_memory { IfErr result (λ fault. fault ≢ CommandFault.Raw RawFault.Memory) }
+    ensures none { IfErr result (λ fault. fault ≢ CommandFault.Memory → (other : ScriptRequest) → IsCommandLine line.now other → ⊥) }
 {
     let tokens = match read_tokens(alloc, line) {
         Ok(tokens) => tokens,
-        Err(fault) => return Err(CommandFault::Raw(fault)),
+        Err(fault) => return Err(of_text(fault)),
     };
     let depth = tokens.depth();
     if depth > DEEPEST {

@@ -40,7 +40,7 @@ fn moved(fault: RawFault, origin: u64) -> CommandFault
         RawFault::BadCharacter(place) => CommandFault::Raw(RawFault::BadCharacter(place)),
         RawFault::TooDeep(depth) => CommandFault::Raw(RawFault::TooDeep(depth)),
         RawFault::Unexpected(place) => CommandFault::Raw(RawFault::Unexpected(origin + place)),
-        RawFault::Memory => CommandFault::Raw(RawFault::Memory),
+        RawFault::Memory => CommandFault::Memory,
     }
 }
 

@@ -13,7 +13,7 @@ ghost use Rattle.tps_reader.specs.Raws.{plain_raw};
 ghost use Rattle.tps_reader.specs.Tokens.{word};
 ghost use Rattle.tps_reader.specs.Views.{plain_sign, plain_tokens};
 
-use crate::faults::CommandFault;
+use crate::faults::{CommandFault, of_text};
 use crate::slices::{place_at, unexpected};
 use hol_terms::names::{Name, NameFault};
 use std::alloc::{AllocError, Global};
@@ -190,7 +190,7 @@ pub fn read_variable(alloc: Global, lexemes: &[Lexeme], end: u64) -> Result<Raw,
     let origin = place_at(lexemes, 0, 0);
     match read_phrase(alloc, lexemes, origin, end) {
         Ok(raw) => Ok(raw),
-        Err(fault) => Err(CommandFault::Raw(fault)),
+        Err(fault) => Err(of_text(fault)),
     }
 }
 
