@@ -1,5 +1,5 @@
 -- A session with one request more, and with one less.
-use Rattle.std.proofs.Common.{◌≡◌, ◌∙◌, List, [], ◌∷◌, ◌++◌, map, Bool, refl, sym, ap, ap₂, subst}
+use Rattle.std.proofs.Common.{◌≡◌, ◌∙◌, List, [], ◌∷◌, ◌++◌, map, Bool, true, refl, sym, ap, ap₂, subst}
 use Rattle.std.specs.Prelude.{IsSome, Option, Some, None, is_some}
 use Rattle.std.proofs.lemmas.List.{map-append}
 use Rattle.nd_rules.specs.Lines.{DeductionLine, line_of}
@@ -40,10 +40,19 @@ traced_last : (lines : List DeductionLine) (steps : List Trace) (s : Trace) → 
 traced_last lines [] s h = record { accepted = h.0; change = h.1 }
 traced_last lines (x ∷ steps) s h = traced_last (taken lines x.0) steps s h.2
 
+-- a goal that was started
+not_started : {A : Type 0} (o : Option A) → o ≡ None → is_some o ≡ true → ⊥
+not_started None e h = cc
+not_started (Some a) e h = cc
+
+not_empty : {A : Type 0} (xs : List A) (x : A) → xs ++ x ∷ [] ≡ [] → ⊥
+not_empty [] x e = cc
+not_empty (y ∷ xs) x e = cc
+
 -- one request more
-pub session_more : (goal : Option Goal) (steps more : List Trace) (lines new : List DeductionLine) (r : Request) → IsSession goal steps lines → Accepts lines r
+pub session_more : (goal : Option Goal) (steps more : List Trace) (lines new : List DeductionLine) (r : Request) → is_some goal ≡ true → IsSession goal steps lines → Accepts lines r
     → more ≡ steps ++ (r, change_of (line_of lines (number_of r))) ∷ [] → new ≡ taken lines r → IsSession goal more new
-session_more goal steps more lines new r s a e f =
+session_more goal steps more lines new r started s a e f =
     subst (λ (m : List Trace). IsSession goal m new) (sym e) (record {
       outline =
           f ∙ ap (λ (l : List DeductionLine). taken l r) s.outline ∙ sym (replay-push (first_lines goal) (requests_of steps) r)
@@ -51,6 +60,7 @@ session_more goal steps more lines new r s a e f =
       traced =
           traced_push (first_lines goal) steps (r, change_of (line_of lines (number_of r))) s.traced
           (subst (λ (l : List DeductionLine). IsLast l (r, change_of (line_of lines (number_of r)))) s.outline (record { accepted = a; change = refl }));
+      idle = λ none. absurd (not_started goal none started);
     })
 
 pub requests_more : (steps more : List Trace) (s : Trace) → more ≡ steps ++ s ∷ [] → requests_of more ≡ requests_of steps ++ s.0 ∷ []
@@ -76,6 +86,7 @@ session_less goal steps more lines new s outline e h f = record {
       f ∙ ap₂ (λ (c : Change) (l : List DeductionLine). taken_back c l (number_of s.0)) last.change (before_last goal steps more lines s e h)
       ∙ taken_then_back (replay_from (first_lines goal) (requests_of steps)) s.0 (subst IsOutline (before_last goal steps more lines s e h) outline) last.accepted.free;
   traced = traced_front (first_lines goal) steps s (subst (AreTraced (first_lines goal)) e h.traced);
+  idle = λ none. absurd (not_empty steps s (sym e ∙ h.idle none));
 }
   where
     last : IsLast (replay_from (first_lines goal) (requests_of steps)) s

@@ -1,5 +1,5 @@
 -- What a session holds, and the outline to which its requests lead.
-use Rattle.std.specs.Prelude.{ℕ, List, [], ◌∷◌, ◌++◌, Option, Some, None}
+use Rattle.std.specs.Prelude.{◌≡◌, ℕ, List, [], ◌∷◌, ◌++◌, Option, Some, None}
 use Rattle.hol_terms.specs.Terms.{Term}
 use Rattle.nd_rules.specs.Lines.{DeductionLine, line_of, planned}
 use Rattle.nd_rules.specs.Outlines.{with_line, with_why}
@@ -15,6 +15,10 @@ pub record Goal : Type 0 where
 pub record SessionState : Type 0 where
   pub goal : Option Goal
   pub requests : List Request
+
+-- where no goal was started, no request is accepted
+pub record IsIdleWithoutGoal (s : SessionState) : Type 0 where
+  pub idle : s.goal ≡ None → s.requests ≡ []
 
 -- the goal as a planned line without hypotheses
 abbrev pub goal_line : Goal → DeductionLine

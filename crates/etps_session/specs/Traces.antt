@@ -40,7 +40,8 @@ AreTraced lines [] = Unit {0}
 AreTraced lines (s ∷ steps) =
     Accepts lines s.0 × (s.1 ≡ change_of (line_of lines (number_of s.0))) × AreTraced (taken lines s.0) steps
 
--- the outline is that of the goal and the requests, each of which was accepted
+-- the outline is that of the goal and the requests, each of which was accepted, and none without a goal
 pub record IsSession (goal : Option Goal) (steps : List Trace) (lines : List DeductionLine) : Type 0 where
   pub outline : lines ≡ replay_from (first_lines goal) (requests_of steps)
   pub traced : AreTraced (first_lines goal) steps
+  pub idle : goal ≡ None → steps ≡ []

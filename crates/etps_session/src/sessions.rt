@@ -9,7 +9,7 @@ ghost use Rattle.nd_rules.specs.Outlines.{IsDerivation};
 ghost use Rattle.etps_session.specs.Answers.{IsAccepted, IsFirstAnswer, IsStarted};
 ghost use Rattle.etps_session.specs.Commands.{IsTyped, plain_command};
 ghost use Rattle.etps_session.specs.Progress.{IsDone, IsUndoFault, IsUndone, first_planned_for, first_planned_in, lines_upto};
-ghost use Rattle.etps_session.specs.Replays.{Goal, replay, with_request};
+ghost use Rattle.etps_session.specs.Replays.{Goal, IsIdleWithoutGoal, replay, with_request};
 
 use crate::commands::Command;
 use crate::faults::{SessionFault, UndoFault};
@@ -25,7 +25,7 @@ use std::marker::Model;
 use std::mem::drop;
 
 /// A session of a deduction tutor: a goal, the commands that were accepted since it was started, and the outline to which they lead.
-/// Contracts see the goal and the list of the commands.
+/// Contracts see the goal and the list of the commands, which is empty where no goal was started.
 #[derive(Drop)]
 pub struct Session {
     alloc: Global,
@@ -84,7 +84,8 @@ fn first_planned_upto(lines: &[Line], last: u64) -> Option<u64>
 impl Session {
     /// The session without a goal.
     pub fn new(alloc: Global) -> Session
-        ensures { result ≡ record { goal = None; requests = [] } }
+        ensures session { result ≡ record { goal = None; requests = [] } }
+        ensures idle { IsIdleWithoutGoal result }
     {
         Session {
             alloc,
@@ -100,6 +101,7 @@ impl Session {
         requires { IsFormula (plain_term goal) }
         ensures ok { OnOk result (self.new ≡ record { goal = Some (record { number = number; formula = plain_term goal }); requests = [] }) }
         ensures err { OnErr result (self.new ≡ self.old) }
+        ensures idle { IsIdleWithoutGoal self.new }
     {
         let formula = copy(self.alloc, &goal)?;
         let outline = planned_alone(self.alloc, number, formula)?;
@@ -122,6 +124,7 @@ impl Session {
         ensures refused { IfErr result (λ e. IsFirstAnswer self.old (plain_command command) e) }
         ensures only { IfErr result (λ e. e ≢ SessionFault.Memory → IsAccepted self.old (plain_command command) → ⊥) }
         ensures kept { OnErr result (self.new ≡ self.old) }
+        ensures idle { IsIdleWithoutGoal self.new }
     {
         let verdict = verdict(self.alloc, self.goal.is_some(), &self.outline, &command);
         match verdict {
@@ -143,6 +146,7 @@ impl Session {
         ensures started { OnOk result (IsStarted self.old) }
         ensures fault { IfErr result (λ e. IsUndoFault self.old e) }
         ensures kept { OnErr result (self.new ≡ self.old) }
+        ensures idle { IsIdleWithoutGoal self.new }
     {
         if self.goal.is_none() {
             return Err(UndoFault::NoGoal);
@@ -159,14 +163,16 @@ impl Session {
 
     /// The outline to which the accepted commands lead.
     pub fn outline(&self) -> &Outline
-        ensures { result.now ≡ replay self.now }
+        ensures lines { result.now ≡ replay self.now }
+        ensures idle { IsIdleWithoutGoal self.now }
     {
         &self.outline
     }
 
     /// The least number of a planned line up to the goal's; `None` exactly where there is none, and where no goal was started.
     pub fn first_planned(&self) -> Option<u64>
-        ensures { result ≡ first_planned_for self.now.goal (replay self.now) }
+        ensures first { result ≡ first_planned_for self.now.goal (replay self.now) }
+        ensures idle { IsIdleWithoutGoal self.now }
     {
         match &self.goal {
             Some(goal) => first_planned_upto(self.outline.as_slice(), goal.number),
@@ -178,6 +184,7 @@ impl Session {
     pub fn is_done(&self) -> bool
         ensures done { IsTrue result ↔ IsDone self.now }
         ensures derivation { IsTrue result → (g : Goal) → self.now.goal ≡ Some g → IsDerivation (lines_upto (replay self.now) g.number) g.formula }
+        ensures idle { IsIdleWithoutGoal self.now }
     {
         match &self.goal {
             Some(goal) => first_planned_upto(self.outline.as_slice(), goal.number).is_none(),

@@ -10,7 +10,7 @@ take-requires-clause-known c = names_known (replay c.args.session.now) c.args.na
 pub with_step-requires : goal.with_step-requires
 with_step-requires c =
     step_after c.args.session.now (plain_script c.args.script.now) c.take.new.session c.in-Ok.number c.args.names c.len-count.result c.outline-in-Ok.result.now
-    c.in-Ok.ensures.taken c.requires.names (rw c.outline.ensures at c.len-count.ensures.count) c.outline-in-Ok.ensures
+    c.in-Ok.ensures.taken c.requires.names (rw c.outline.ensures.lines at c.len-count.ensures.count) c.outline-in-Ok.ensures.lines
 
 pub shown-requires : goal.shown-requires
 shown-requires c = line_there c.args.session.now (plain_script c.args.script.now) c.take.new.session c.in-Ok.number c.in-Ok.ensures.taken

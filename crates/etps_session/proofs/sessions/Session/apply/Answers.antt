@@ -1,4 +1,5 @@
-use Rattle.std.proofs.Common.{◌∙◌, map, ap}
+use Rattle.std.proofs.Common.{◌≡◌, ◌∙◌, map, true, sym, ap}
+use Rattle.std.specs.Prelude.{is_some}
 use Rattle.std.specs.Option.{option_map}
 use Rattle.etps_session.specs.Commands.{plain_command}
 use Rattle.etps_session.specs.Traces.{plain_goal, plain_step}
@@ -13,9 +14,10 @@ invariant_of-self c =
     let old = map plain_step c.self.inside.steps.items in
     let new = map plain_step c.accept.new.steps.items in
     let lines = c.self.inside.outline in
+    let started : is_some held ≡ true = sym (c.is_some.ensures ∙ some_kept c.self.inside.goal) ∙ c.in-Ok.ensures.started in
     elim c.match-accept.branch [
       | in-Ok-accept w ↦
-          session_more held old new lines c.accept.new.outline (plain_command c.args.command) c.self.invariant c.in-Ok.ensures.accepted w.in-Ok-accept.ensures.steps w.in-Ok-accept.ensures.outline
+          session_more held old new lines c.accept.new.outline (plain_command c.args.command) started c.self.invariant c.in-Ok.ensures.accepted w.in-Ok-accept.ensures.steps w.in-Ok-accept.ensures.outline
       | in-Err-accept w ↦
           session_same held old new lines c.accept.new.outline c.self.invariant (ap (map plain_step) w.in-Err-accept.ensures.kept_steps) w.in-Err-accept.ensures.kept_outline
     ]
