@@ -10,8 +10,8 @@ use Rattle.core_text.specs.CoreForms.{HasNames}
 use Rattle.tps_reader.specs.Grammar.{IsFormula}
 use Rattle.tps_reader.specs.Raws.{RawFormula}
 use Rattle.tps_reader.specs.Tokens.{AreTokensOf, Token, sign_of}
-use Rattle.tps_reader.specs.Depth.{depth_of}
 use Rattle.tps_reader.specs.Faults.{IsFormulaText}
+use Rattle.tps_reader.specs.Groups.{IsWithinDepth}
 use Rattle.type_infer.specs.Faults.{IsOnlyAnnotation}
 use Rattle.tps_print.specs.BoundNames.{binder_depth, bound_names, free_names}
 use Rattle.tps_print.specs.Layouts.{Layout, SaysTerm}
@@ -68,7 +68,7 @@ HasTokensOfSigns =
 -- is longer than 64 characters, and the depth is at most 1,000.
 abbrev pub IsReadBack : Term → List ℕ → Type 0
 IsReadBack t text =
-    (s : SimpleType) → Typed [] t s → HasOneTypeEach t → HasShortWords t → ((ts : List Token) → AreTokensOf text ts → depth_of ts ≤ 1000)
+    (s : SimpleType) → Typed [] t s → HasOneTypeEach t → HasShortWords t → ((ts : List Token) → AreTokensOf text ts → IsWithinDepth ts 1000)
     → (v : RawFormula) × IsFormulaText text v × IsOnlyAnnotation v (Some s) [] t
 
 -- the printed text of a term is read back

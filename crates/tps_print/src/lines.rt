@@ -5,7 +5,6 @@ ghost use Rattle.std.specs.Option.{option_map};
 ghost use Rattle.std.specs.String.{string_bytes};
 ghost use Rattle.hol_terms.specs.Terms.{plain_term};
 ghost use Rattle.nd_rules.specs.Lines.{plain_line, plain_why};
-ghost use Rattle.nd_rules.specs.Outlines.{IsWellFormed};
 ghost use Rattle.tps_print.specs.Lines.{further_numbers, line_pieces, listed_numbers, spaced_numbers, term_of as term_of_why, why_pieces};
 ghost use Rattle.tps_print.specs.Outputs.{after};
 ghost use Rattle.tps_print.specs.Pieces.{fixed, pieces};
@@ -188,7 +187,6 @@ fn term_of(why: &Why) -> Option<&Tm>
 /// The names of bound variables are free neither in the formula nor in the term of the justification, and a free variable has its type
 /// behind its first occurrence in the formula and then the term. An error comes only where memory is wanting.
 pub fn print_line(alloc: Global, line: &Line) -> Result<Text, AllocError>
-    requires { IsWellFormed (plain_line line.now) }
     ensures { IfOk result (λ text. text ≡ printed_line (plain_line line.now)) }
 {
     let names = names_beside(alloc, &line.formula, term_of(&line.why))?;
