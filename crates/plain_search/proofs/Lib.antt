@@ -8,3 +8,4 @@ pub mod Reaching
 pub mod Least
 pub mod Mated
 pub mod Searching
+pub mod Renaming

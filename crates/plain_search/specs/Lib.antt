@@ -1,5 +1,6 @@
 pub mod Levels
 pub mod Proofs
+pub mod Renaming
 pub mod Searching
 pub mod Tasks
 pub mod Trials
