@@ -1,6 +1,6 @@
 -- Steps that are made of others.
 use Rattle.std.proofs.Common.{◌≡◌, ℕ, zero, ◌+◌, List, [], ◌∷◌, ◌++◌, length, Some, refl, sym, ◌∙◌, ap, subst, arith, inl, inr}
-use Rattle.std.specs.Prelude.{All, Contains, Result, IfOk}
+use Rattle.std.specs.Prelude.{All, Contains, Result, Ok, Err, IfOk, OnErr}
 use Rattle.std.specs.Option.{option_map}
 use Rattle.std.proofs.lemmas.List.Elements.{recursion_from_All, All-from_recursion, All-weaker, All-push, All-contains_itself, Contains-append_left, Contains-append_right, Contains-push}
 use Rattle.std.proofs.lemmas.Result.{IfOk-weaker}
@@ -17,7 +17,7 @@ use Rattle.nd_rules.specs.Rules.{implies, universal}
 use Rattle.nd_steps.specs.Deductions.{IsNumberedFrom, IsDeduction, Assumes, Proves, AreAssumptions, Grows, next_line, AddsLine, IsNextJustified, Derives}
 use Rattle.nd_steps.specs.Premises.{FollowsFrom, Instantiates, Generalizes, Converts, not_so, either, InstantiatesTo, Contradicts, DeniesUniversal}
 use Rattle.nd_steps.proofs.Forming.{assumed_formed}
-use Rattle.nd_steps.proofs.Growing.{grows_on, proves_stays, assumes_stays, assumptions_stay, free_in_none_stays, proves_from_more}
+use Rattle.nd_steps.proofs.Growing.{grows_on, same_grows, proves_stays, assumes_stays, assumptions_stay, free_in_none_stays, proves_from_more}
 use Rattle.nd_steps.proofs.Justifying.{assume_justified}
 use Rattle.nd_steps.proofs.Numbering.{found_last, numbered_within}
 
@@ -34,6 +34,14 @@ derives_then i j k old mid new m n hyps others a b sum d e = record {
 pub ok_derives_then : {E : Type 0} (r : Result ℕ E) (i j k : ℕ) (old mid new : List DeductionLine) (m : ℕ) (hyps others : List ℕ) (a b : Term) → i + j ≡ k → Derives i old mid m hyps a → IfOk r (λ n. Derives j mid new n others b) → IfOk r (λ n. Derives k old new n others b)
 ok_derives_then r i j k old mid new m hyps others a b sum d h =
     IfOk-weaker r (λ n. Derives j mid new n others b) (λ n. Derives k old new n others b) (λ n e. derives_then i j k old mid new m n hyps others a b sum d e) h
+
+-- Whether a step adds its line or not, the lines from before stay.
+pub step_grows : {E : Type 0} (r : Result ℕ E) (k : ℕ) (old new : List DeductionLine) (hyps : List ℕ) (formula : Term) → IfOk r (λ n. Derives k old new n hyps formula) → OnErr r (new ≡ old) → Grows old new
+step_grows (Ok n) k old new hyps formula derives same = derives.grown
+step_grows (Err e) k old new hyps formula derives same = same_grows old new same
+
+pub step_grows_on : {E : Type 0} (r : Result ℕ E) (k : ℕ) (old mid new : List DeductionLine) (hyps : List ℕ) (formula : Term) → Grows old mid → IfOk r (λ n. Derives k mid new n hyps formula) → OnErr r (new ≡ mid) → Grows old new
+step_grows_on r k old mid new hyps formula grown derives same = grows_on old mid new grown (step_grows r k mid new hyps formula derives same)
 
 -- P
 

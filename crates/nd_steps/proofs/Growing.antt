@@ -2,6 +2,7 @@
 use Rattle.std.proofs.Common.{◌≡◌, ℕ, ◌+◌, ◌<◌, ◌≤◌, List, [], ◌∷◌, ◌++◌, length, cond, Some, None, refl, sym, ◌∙◌, ap, subst, arith, inl, inr, append_assoc}
 use Rattle.std.specs.Prelude.{All, Contains, slice_index}
 use Rattle.std.proofs.lemmas.Bool.Decides.{eqb_tells}
+use Rattle.std.proofs.lemmas.List.{append-nil}
 use Rattle.std.proofs.lemmas.List.Elements.{recursion_from_All, All-from_recursion, All-weaker, All-contains, All-contains_itself}
 use Rattle.hol_terms.specs.Lists.{IsAboveLast}
 use Rattle.hol_terms.specs.Terms.{SimpleType, Term}
@@ -11,6 +12,9 @@ use Rattle.nd_rules.specs.Outlines.{IsDerivation}
 use Rattle.nd_rules.specs.Rules.{IsJustified}
 use Rattle.nd_steps.specs.Deductions.{IsNumberedFrom, IsDeduction, Assumes, Proves, AreAssumptions, IsFreeInNone, Grows}
 use Rattle.nd_steps.proofs.Numbering.{found_stays, found_in, found_number, numbered_within}
+
+pub same_grows : (old new : List DeductionLine) → new ≡ old → Grows old new
+same_grows old new e = ([], e ∙ sym (append-nil old))
 
 pub grows_on : (first second third : List DeductionLine) → Grows first second → Grows second third → Grows first third
 grows_on first second third g h = (g.0 ++ h.0, h.1 ∙ ap (λ (ls : List DeductionLine). ls ++ h.0) g.1 ∙ append_assoc first g.0 h.0)

@@ -1,11 +1,11 @@
 //! Steps of several lines, by the rules; each answers the number of the last line. After an error, which comes only where memory is
-//! wanting, some of the lines may be there.
+//! wanting, the lines from before are there, and maybe some of the new ones.
 
 ghost use Rattle.std.specs.Prelude.{◌≡◌, ◌∷◌, ◌++◌, [], IfOk, OnOk};
 ghost use Rattle.hol_terms.specs.Terms.{Term, constant, falsehood as falsehood_constant, plain_term};
 ghost use Rattle.hol_terms.specs.Typing.{IsFormula};
 ghost use Rattle.nd_rules.specs.Rules.{implies};
-ghost use Rattle.nd_steps.specs.Deductions.{AreAssumptions, Assumes, Derives, IsDeduction};
+ghost use Rattle.nd_steps.specs.Deductions.{AreAssumptions, Assumes, Derives, Grows, IsDeduction};
 ghost use Rattle.nd_steps.specs.Premises.{Contradicts, DeniesInstance, DeniesUniversal, InstantiatesTo, Splits, not_so};
 
 use crate::deductions::Deduction;
@@ -46,6 +46,7 @@ impl Deduction {
         ensures assumptions { IfOk result (λ s. AreAssumptions self.new s.hyps) }
         ensures assumes { IfOk result (λ s. Assumes self.new s.number (plain_term formula)) }
         ensures derives { IfOk result (λ s. Derives 1 self.old self.new s.number s.hyps (plain_term formula)) }
+        ensures grown { Grows self.old self.new }
         ensures deduction { OnOk result (IsDeduction self.new) }
     {
         let number = self.assume(alloc, formula)?;
@@ -63,6 +64,7 @@ impl Deduction {
         requires assumptions { AreAssumptions self.old hyps.now }
         requires contradicted { (a : Term) × Contradicts self.old hyps.now contradiction.hyp contradiction.source a }
         ensures derives { (a : Term) → Contradicts self.old hyps.now contradiction.hyp contradiction.source a → IfOk result (λ n. Derives 1 self.old self.new n hyps.now (implies a (constant falsehood_constant))) }
+        ensures grown { Grows self.old self.new }
         ensures deduction { OnOk result (IsDeduction self.new) }
     {
         let Contradiction { hyp, source } = contradiction;
@@ -80,6 +82,7 @@ impl Deduction {
         requires assumptions { AreAssumptions self.old hyps.now }
         requires contradicted { (a : Term) × Contradicts self.old hyps.now contradiction.hyp contradiction.source a }
         ensures derives { (a : Term) → Contradicts self.old hyps.now contradiction.hyp contradiction.source a → IfOk result (λ n. Derives 2 self.old self.new n hyps.now (not_so a)) }
+        ensures grown { Grows self.old self.new }
         ensures deduction { OnOk result (IsDeduction self.new) }
     {
         let formula = copy(alloc, self.formula(contradiction.hyp))?;
@@ -99,6 +102,7 @@ impl Deduction {
         requires assumptions { AreAssumptions self.old hyps.now }
         requires contradicted { Contradicts self.old hyps.now contradiction.hyp contradiction.source (not_so (plain_term formula)) }
         ensures derives { IfOk result (λ n. Derives 2 self.old self.new n hyps.now (plain_term formula)) }
+        ensures grown { Grows self.old self.new }
         ensures deduction { OnOk result (IsDeduction self.new) }
     {
         let implied = self.deduct_falsehood(alloc, hyps, contradiction)?;
@@ -117,6 +121,7 @@ impl Deduction {
         requires assumptions { AreAssumptions self.old hyps.now }
         requires premises { Splits self.old hyps.now source first.hyp first.source second.hyp second.source }
         ensures derives { IfOk result (λ n. Derives 3 self.old self.new n hyps.now (constant falsehood_constant)) }
+        ensures grown { Grows self.old self.new }
         ensures deduction { OnOk result (IsDeduction self.new) }
     {
         let not_first = self.deduct_falsehood(alloc, hyps, first)?;
@@ -136,6 +141,7 @@ impl Deduction {
         requires assumptions { AreAssumptions self.old hyps.now }
         requires premises { InstantiatesTo self.old hyps.now source (plain_term term) (plain_term formula) }
         ensures derives { IfOk result (λ n. Derives 2 self.old self.new n hyps.now (plain_term formula)) }
+        ensures grown { Grows self.old self.new }
         ensures deduction { OnOk result (IsDeduction self.new) }
     {
         let instance = universal_instance(alloc, self.formula(source), &term)?;
@@ -156,6 +162,7 @@ impl Deduction {
         requires assumptions { AreAssumptions self.old hyps.now }
         requires premises { DeniesInstance self.old hyps.now source (plain_term term) (plain_term formula) }
         ensures derives { IfOk result (λ n. Derives 6 self.old self.new n hyps.now (not_so (plain_term formula))) }
+        ensures grown { Grows self.old self.new }
         ensures deduction { OnOk result (IsDeduction self.new) }
     {
         let existence = copy(alloc, negated(self.formula(source)))?;
@@ -184,6 +191,7 @@ impl Deduction {
         requires assumptions { AreAssumptions self.old hyps.now }
         requires premises { DeniesUniversal self.old hyps.now source contradiction.hyp contradiction.source name }
         ensures derives { IfOk result (λ n. Derives 4 self.old self.new n hyps.now (constant falsehood_constant)) }
+        ensures grown { Grows self.old self.new }
         ensures deduction { OnOk result (IsDeduction self.new) }
     {
         let universal = copy(alloc, negated(self.formula(source)))?;

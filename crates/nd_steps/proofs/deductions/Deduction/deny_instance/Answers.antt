@@ -5,7 +5,7 @@ use Rattle.hol_conv.proofs.Uniqueness.{conv-last}
 use Rattle.nd_rules.specs.Rules.{existence}
 use Rattle.nd_steps.specs.Deductions.{Proves}
 use Rattle.nd_steps.specs.Premises.{not_so}
-use Rattle.nd_steps.proofs.Growing.{assumptions_stay, grows_on, proves_stays}
+use Rattle.nd_steps.proofs.Growing.{assumptions_stay, grows_on, proves_stays, same_grows}
 use Rattle.nd_steps.proofs.Deriving.{converts_back, contradicts_with, derives_then, negated_read, ok_derives_then, opposed, proves_with}
 use Rattle.nd_steps.proofs.deductions.Deduction.deny_instance.Goals as goal
 
@@ -72,3 +72,31 @@ returns-clause-derives c =
     let three = derives_then 2 1 3 c.args.self.now c.convert.new.self c.witness.new.self c.in_ok-line.line c.in_ok-line-2.line more more (plain_term c.in_ok-instance.instance) (plain_term c.in_ok-existence.existence) refl two c.in_ok-line-2.ensures.derives in
     let four = derives_then 3 1 4 c.args.self.now c.witness.new.self c.follow_two.new.self c.in_ok-line-2.line c.in_ok-line-3.line more more (plain_term c.in_ok-existence.existence) (plain_term c.falsehood.result) refl three c.in_ok-line-3.ensures.derives in
     ok_derives_then c.refute.result 4 2 6 c.args.self.now c.follow_two.new.self c.refute.new.self c.in_ok-line-3.line more hyps (plain_term c.falsehood.result) (not_so (plain_term c.args.formula)) refl four (c.refute.ensures.derives (plain_term c.args.formula) contradicted)
+
+pub returns-in_err-existence-clause-grown : goal.returns-in_err-existence-clause-grown
+returns-in_err-existence-clause-grown c =
+    same_grows c.args.self.now c.args.self.now refl
+
+pub returns-in_err-instance-clause-grown : goal.returns-in_err-instance-clause-grown
+returns-in_err-instance-clause-grown c =
+    same_grows c.args.self.now c.args.self.now refl
+
+pub returns-in_err-supposed-clause-grown : goal.returns-in_err-supposed-clause-grown
+returns-in_err-supposed-clause-grown c =
+    c.in_err-supposed.ensures.grown
+
+pub returns-in_err-line-clause-grown : goal.returns-in_err-line-clause-grown
+returns-in_err-line-clause-grown c =
+    grows_on c.args.self.now c.suppose.new.self c.convert.new.self c.in_ok-supposed.ensures.grown (same_grows c.suppose.new.self c.convert.new.self c.in_err-line.ensures.err)
+
+pub returns-in_err-line-2-clause-grown : goal.returns-in_err-line-2-clause-grown
+returns-in_err-line-2-clause-grown c =
+    grows_on c.args.self.now c.convert.new.self c.witness.new.self (grows_on c.args.self.now c.suppose.new.self c.convert.new.self c.in_ok-supposed.ensures.grown c.in_ok-line.ensures.derives.grown) (same_grows c.convert.new.self c.witness.new.self c.in_err-line-2.ensures.err)
+
+pub returns-in_err-line-3-clause-grown : goal.returns-in_err-line-3-clause-grown
+returns-in_err-line-3-clause-grown c =
+    grows_on c.args.self.now c.witness.new.self c.follow_two.new.self (grows_on c.args.self.now c.convert.new.self c.witness.new.self (grows_on c.args.self.now c.suppose.new.self c.convert.new.self c.in_ok-supposed.ensures.grown c.in_ok-line.ensures.derives.grown) c.in_ok-line-2.ensures.derives.grown) (same_grows c.witness.new.self c.follow_two.new.self c.in_err-line-3.ensures.err)
+
+pub returns-clause-grown : goal.returns-clause-grown
+returns-clause-grown c =
+    grows_on c.args.self.now c.follow_two.new.self c.refute.new.self (grows_on c.args.self.now c.witness.new.self c.follow_two.new.self (grows_on c.args.self.now c.convert.new.self c.witness.new.self (grows_on c.args.self.now c.suppose.new.self c.convert.new.self c.in_ok-supposed.ensures.grown c.in_ok-line.ensures.derives.grown) c.in_ok-line-2.ensures.derives.grown) c.in_ok-line-3.ensures.derives.grown) c.refute.ensures.grown

@@ -4,7 +4,7 @@ use Rattle.hol_terms.specs.Terms.{Term, constant, falsehood, plain_term}
 use Rattle.nd_rules.specs.Rules.{implies}
 use Rattle.nd_steps.specs.Deductions.{Derives}
 use Rattle.nd_steps.proofs.Growing.{assumptions_stay, grows_on, proves_stays}
-use Rattle.nd_steps.proofs.Deriving.{contradicts_stays, derives_then, ok_derives_then, splits}
+use Rattle.nd_steps.proofs.Deriving.{contradicts_stays, derives_then, ok_derives_then, splits, step_grows_on}
 use Rattle.nd_steps.proofs.deductions.Deduction.split.Goals as goal
 
 pub deduct_falsehood-requires-2-clause-assumptions : goal.deduct_falsehood-requires-2-clause-assumptions
@@ -52,3 +52,15 @@ returns-clause-derives c =
     let P : Term → Type 0 = λ t. IfOk c.follow_three.result (λ n. Derives 3 c.args.self.now c.follow_three.new.self n hyps t) in
     subst P c.falsehood.ensures
     (ok_derives_then c.follow_three.result 2 1 3 c.args.self.now c.deduct_falsehood-2.new.self c.follow_three.new.self c.in_ok-not_second.not_second hyps hyps (implies p.second (constant falsehood)) (plain_term c.falsehood.result) refl both c.follow_three.ensures.derives)
+
+pub returns-in_err-not_first-clause-grown : goal.returns-in_err-not_first-clause-grown
+returns-in_err-not_first-clause-grown c =
+    c.in_err-not_first.ensures.grown
+
+pub returns-in_err-not_second-clause-grown : goal.returns-in_err-not_second-clause-grown
+returns-in_err-not_second-clause-grown c =
+    grows_on c.args.self.now c.deduct_falsehood.new.self c.deduct_falsehood-2.new.self c.in_ok-not_first.ensures.grown c.in_err-not_second.ensures.grown
+
+pub returns-clause-grown : goal.returns-clause-grown
+returns-clause-grown c =
+    step_grows_on c.follow_three.result 1 c.args.self.now c.deduct_falsehood-2.new.self c.follow_three.new.self c.args.hyps.now _ (grows_on c.args.self.now c.deduct_falsehood.new.self c.deduct_falsehood-2.new.self c.in_ok-not_first.ensures.grown c.in_ok-not_second.ensures.grown) c.follow_three.ensures.derives c.follow_three.ensures.err
