@@ -1,8 +1,9 @@
 -- Derivation texts: which bytes are the text of which outline.
-use Rattle.std.specs.Prelude.{ℕ, ◌<◌, ◌^◌, List, [], ◌∷◌, length}
+use Rattle.std.specs.Prelude.{◌≡◌, ℕ, ◌<◌, ◌^◌, List, [], ◌∷◌, ◌++◌, length}
 use Rattle.hol_terms.specs.Names.{IsName}
 use Rattle.core_text.specs.CoreForms.{HasNames}
 use Rattle.core_text.specs.Forms.{IsTextOf}
+use Rattle.core_text.specs.Written.{written}
 use Rattle.nd_rules.specs.Lines.{Justification, hypothesis, deduction, universal_instance, generalization, existential, choice, conversion, assignments, planned, DeductionLine, cited}
 use Rattle.nd_rules.specs.Outlines.{IsOutline}
 use Rattle.nd_check.specs.Forms.{derivation_form}
@@ -46,3 +47,12 @@ pub record IsDerivationText (bytes : List ℕ) (lines : List DeductionLine) : Ty
   pub some : 0 < length lines
   pub names : LinesHaveNames lines
   pub outline : IsOutline lines
+
+-- The bytes are what is written for these lines: their form with one space between members, none behind ( and none before ), and LF at the
+-- end. There is at least one line, the lines are an outline, all names are names, and all numbers have 64 bits.
+pub record IsWrittenDerivation (bytes : List ℕ) (lines : List DeductionLine) : Type 0 where
+  pub same : bytes ≡ written (derivation_form lines) ++ 10 ∷ []
+  pub some : 0 < length lines
+  pub outline : IsOutline lines
+  pub names : LinesHaveNames lines
+  pub numbers : LinesHaveNumerals lines

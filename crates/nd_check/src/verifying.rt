@@ -1,6 +1,6 @@
 //! Whether an outline is a derivation.
 
-ghost use Rattle.std.specs.Prelude.{◌≡◌, ◌≢◌, ◌<◌, ◌++◌, [], IfErr, OnOk, All, codes, decimal, length};
+ghost use Rattle.std.specs.Prelude.{◌≡◌, ◌≢◌, ◌<◌, ◌++◌, [], IfErr, OnErr, OnOk, All, codes, decimal, length};
 ghost use Rattle.hol_terms.specs.Terms.{Term, plain_term};
 ghost use Rattle.hol_terms.specs.Typing.{IsFormula};
 ghost use Rattle.nd_rules.specs.Lines.{DeductionLine, plain_line};
@@ -100,9 +100,8 @@ pub fn conclusion(outline: &Outline) -> &Tm
 }
 
 impl VerifyFault {
-    /// Appends the line by which the fault is told, without an end of line: `LINE`, the number of the line, and the words of the
-    /// refusal, `PLANNED` or `NOTCLOSED`; nothing for want of memory. An error comes only where memory is wanting.
-    pub fn append_line(&self, alloc: Global, out: &mut Text) -> Result<(), AllocError>
+    /// Appends what `append_line` does; after an error a part of it may be there.
+    fn append_parts(&self, alloc: Global, out: &mut Text) -> Result<(), AllocError>
         ensures { OnOk result (out.new ≡ out.old ++ fault_line self.now) }
     {
         match self {
@@ -121,5 +120,17 @@ impl VerifyFault {
                 out.append(b" NOTCLOSED")
             }
         }
+    }
+
+    /// Appends the line by which the fault is told, without an end of line: `LINE`, the number of the line, and the words of the
+    /// refusal, `PLANNED` or `NOTCLOSED`; nothing for want of memory. An error comes only where memory is wanting, and then nothing is
+    /// changed.
+    pub fn append_line(&self, alloc: Global, out: &mut Text) -> Result<(), AllocError>
+        ensures ok { OnOk result (out.new ≡ out.old ++ fault_line self.now) }
+        ensures err { OnErr result (out.new ≡ out.old) }
+    {
+        let mut line = Text::new(alloc);
+        self.append_parts(alloc, &mut line)?;
+        out.append(line.as_slice())
     }
 }

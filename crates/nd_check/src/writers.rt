@@ -8,7 +8,7 @@ ghost use Rattle.core_text.specs.Forms.{list_form, more_forms, nesting, number_f
 ghost use Rattle.core_text.specs.Written.{written, written_others};
 ghost use Rattle.nd_rules.specs.Lines.{cited, generalization, plain_line, plain_why};
 ghost use Rattle.nd_check.specs.Forms.{derivation_form, line_form, line_forms, number_forms, why_form};
-ghost use Rattle.nd_check.specs.Texts.{AreNumerals, IsDerivationText, LineHasNames, LineHasNumerals, LinesHaveNames, LinesHaveNumerals, WhyHasNames};
+ghost use Rattle.nd_check.specs.Texts.{AreNumerals, IsDerivationText, IsWrittenDerivation, LineHasNames, LineHasNumerals, LinesHaveNames, LinesHaveNumerals, WhyHasNames};
 
 use core_text::writers::{append_name, append_number, append_term};
 use hol_terms::lists::{Hyps, Text};
@@ -175,6 +175,7 @@ fn append_derivation(alloc: Global, out: &mut Text, lines: &[Line]) -> Result<()
 /// It is read again as that outline, within the limits of reading. An error comes only where memory is wanting.
 pub fn write_derivation(alloc: Global, outline: &Outline) -> Result<Text, AllocError>
     requires { 0 < length outline.now }
+    ensures written { IfOk result (λ text. IsWrittenDerivation text outline.now) }
     ensures read { nesting (derivation_form outline.now) ≤ 5000 → IfOk result (λ text. IsDerivationText text outline.now) }
     ensures text { IfOk result (λ text. text ≡ written (derivation_form outline.now) ++ 10 ∷ []) }
 {
