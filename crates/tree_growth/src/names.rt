@@ -1,6 +1,6 @@
 //! Names for selected variables.
 
-ghost use Rattle.std.specs.Prelude.{◌≡◌, ◌≤◌, ◌+◌, ◌↔◌, ℕ, Contains, IfOk, IsTrue, map};
+ghost use Rattle.std.specs.Prelude.{◌≡◌, ◌≤◌, ◌<◌, ◌+◌, ◌↔◌, ℕ, Contains, IfOk, IsTrue, map};
 ghost use Rattle.hol_terms.specs.FreeVariables.{free_variables_of};
 ghost use Rattle.hol_terms.specs.Terms.{Variable, plain_term};
 ghost use Rattle.tree_growth.specs.Growths.{numbered_name};
@@ -50,6 +50,7 @@ impl TakenNames {
     pub fn fresh(&self, alloc: Global, from: u64) -> Result<(Name, u64), AllocError>
         ensures name { IfOk result (λ r. (n : ℕ) × (from ≤ n) × (r.0 ≡ numbered_name n) × (r.1 ≡ n + 1)) }
         ensures free { IfOk result (λ r. Contains self.now r.0 → ⊥) }
+        ensures first { IfOk result (λ r. (m : ℕ) → from ≤ m → m + 1 < r.1 → Contains self.now (numbered_name m)) }
     {
         let mut number = from;
         loop {
