@@ -309,7 +309,8 @@ fn refute_denial(
 }
 
 /// Supposes that the long normal form of an expansion proof's formula is false, and derives FALSEHOOD (Miller 1987): answers the line of
-/// the hypothesis and that of FALSEHOOD. An error comes only where memory is wanting; some of the lines may be there then.
+/// the hypothesis and that of FALSEHOOD. The lines from before stay. An error comes only where memory is wanting; some of the lines may be
+/// there then.
 pub fn refute(
     alloc: Global,
     accepted: &Accepted,
@@ -319,6 +320,7 @@ pub fn refute(
     requires { IsNormalFormula (plain_term normal.now) accepted.now.fitted.formula }
     ensures contradicts { IfOk result (λ r. Contradicts deduction.new [] r.hyp r.source (negation_of (plain_term normal.now))) }
     ensures few { OnOk result (length deduction.new ≤ length deduction.old + 1 + 24 * 2 ^ node_count accepted.now.fitted.tree) }
+    ensures grown { OnOk result (Grows deduction.old deduction.new) }
     ensures deduction { OnOk result (IsDeduction deduction.new) }
 {
     let denied = said(alloc, true, normal)?;

@@ -3,7 +3,7 @@ use Rattle.hol_terms.specs.Terms.{Term, plain_term, truth_type}
 use Rattle.hol_terms.specs.Typing.{IsFormula}
 use Rattle.expansion_tree.proofs.Formulas.{normal_formula}
 use Rattle.nd_steps.specs.Deductions.{Assumes}
-use Rattle.nd_steps.proofs.Growing.{assumes_stays}
+use Rattle.nd_steps.proofs.Growing.{assumes_stays, grows_on}
 use Rattle.refutations.proofs.refute.refute.Goals as goal
 
 pub assume-requires : goal.assume-requires
@@ -16,3 +16,7 @@ returns-clause-contradicts c =
       assumed = subst A c.in_ok-denied.ensures (assumes_stays c.assume.new.self c.refute_denial.new.deduction c.in_ok-hyp.hyp (plain_term c.in_ok-denied.denied) c.in_ok-source.ensures.reaches.grown c.in_ok-hyp.ensures.assumes);
       proved = c.in_ok-source.ensures.reaches.proves;
     }
+
+pub returns-clause-grown : goal.returns-clause-grown
+returns-clause-grown c =
+    grows_on c.args.deduction.now c.assume.new.self c.refute_denial.new.deduction c.in_ok-hyp.ensures.derives.grown c.in_ok-source.ensures.reaches.grown
