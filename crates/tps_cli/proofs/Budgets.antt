@@ -5,13 +5,12 @@ use Rattle.std.proofs.lemmas.List.{length-map}
 use Rattle.core_text.specs.Words.{numeral_of}
 use Rattle.tps_cli.specs.Options.{AreBudget, AreOptions, IsNumberUpTo, IsOption}
 use Rattle.tps_cli.specs.declared.options.Budget.{Budget}
-use Rattle.tps_cli.specs.declared.options.TheConstants.{GREATEST_WEIGHT, GREATEST_LEVEL, USUAL_WEIGHT, USUAL_LEVEL}
 
 -- none, one of them, or both in one order or the other
 pub data Standing (b : Budget) (words : List (List ℕ)) : Type 0 where
-  no_option : words ≡ [] → b.weight ≡ USUAL_WEIGHT → b.level ≡ USUAL_LEVEL → Standing b words
-  weight_alone : (w : List ℕ) → words ≡ codes "--weight" ∷ w ∷ [] → IsNumberUpTo GREATEST_WEIGHT w b.weight → b.level ≡ USUAL_LEVEL → Standing b words
-  level_alone : (l : List ℕ) → words ≡ codes "--level" ∷ l ∷ [] → b.weight ≡ USUAL_WEIGHT → IsNumberUpTo GREATEST_LEVEL l b.level → Standing b words
+  no_option : words ≡ [] → b.weight ≡ 6 → b.level ≡ 1 → Standing b words
+  weight_alone : (w : List ℕ) → words ≡ codes "--weight" ∷ w ∷ [] → IsNumberUpTo 64 w b.weight → b.level ≡ 1 → Standing b words
+  level_alone : (l : List ℕ) → words ≡ codes "--level" ∷ l ∷ [] → b.weight ≡ 6 → IsNumberUpTo 2 l b.level → Standing b words
   weight_first : (w l : List ℕ) → words ≡ codes "--weight" ∷ w ∷ codes "--level" ∷ l ∷ [] → AreBudget b w l → Standing b words
   level_first : (w l : List ℕ) → words ≡ codes "--level" ∷ l ∷ codes "--weight" ∷ w ∷ [] → AreBudget b w l → Standing b words
 
@@ -19,8 +18,8 @@ joined : (ws ls us vs : List (List ℕ)) → ws ≡ us → ls ≡ vs → ws ++ l
 joined ws ls us vs e f = ap (λ (x : List (List ℕ)). x ++ ls) e ∙ ap (λ (x : List (List ℕ)). us ++ x) f
 
 by_cases :
-    (b : Budget) (words ws ls : List (List ℕ)) → IsOption (codes "--weight") USUAL_WEIGHT GREATEST_WEIGHT b.weight ws
-    → IsOption (codes "--level") USUAL_LEVEL GREATEST_LEVEL b.level ls → (words ≡ ws ++ ls) ⊎ (words ≡ ls ++ ws) → Standing b words
+    (b : Budget) (words ws ls : List (List ℕ)) → IsOption (codes "--weight") 6 64 b.weight ws
+    → IsOption (codes "--level") 1 2 b.level ls → (words ≡ ws ++ ls) ⊎ (words ≡ ls ++ ws) → Standing b words
 by_cases b words ws ls (inl (e, u)) (inl (f, v)) (inl both) = no_option (both ∙ joined ws ls _ _ e f) u v
 by_cases b words ws ls (inl (e, u)) (inl (f, v)) (inr both) = no_option (both ∙ joined ls ws _ _ f e) u v
 by_cases b words ws ls (inl (e, u)) (inr (l, f, v)) (inl both) = level_alone l (both ∙ joined ws ls _ _ e f) u v
@@ -41,7 +40,7 @@ number_one greatest v w m n same (e, within) (f, within') =
     let numbers : Some m ≡ Some n = sym e ∙ ap numeral_of same ∙ f in cc
 
 both_one : (b c : Budget) (v w k l : List ℕ) → v ≡ w → k ≡ l → AreBudget b v k → AreBudget c w l → b ≡ c
-both_one b c v w k l e f (m, n) (m', n') = budgets b c (number_one GREATEST_WEIGHT v w _ _ e m m') (number_one GREATEST_LEVEL k l _ _ f n n')
+both_one b c v w k l e f (m, n) (m', n') = budgets b c (number_one 64 v w _ _ e m m') (number_one 2 k l _ _ f n n')
 
 one : (b c : Budget) (words : List (List ℕ)) → Standing b words → Standing c words → b ≡ c
 one b c words (no_option e u v) (no_option f u' v') = budgets b c (u ∙ sym u') (v ∙ sym v')
@@ -51,14 +50,14 @@ one b c words (no_option e u v) (weight_first w l f n) = cc
 one b c words (no_option e u v) (level_first w l f n) = cc
 one b c words (weight_alone w e u v) (no_option f u' v') = cc
 one b c words (weight_alone w e u v) (weight_alone w' f u' v') =
-    let same : w ≡ w' = cc in budgets b c (number_one GREATEST_WEIGHT w w' _ _ same u u') (v ∙ sym v')
+    let same : w ≡ w' = cc in budgets b c (number_one 64 w w' _ _ same u u') (v ∙ sym v')
 one b c words (weight_alone w e u v) (level_alone l f u' v') = cc
 one b c words (weight_alone w e u v) (weight_first w' l f n) = cc
 one b c words (weight_alone w e u v) (level_first w' l f n) = cc
 one b c words (level_alone l e u v) (no_option f u' v') = cc
 one b c words (level_alone l e u v) (weight_alone w f u' v') = cc
 one b c words (level_alone l e u v) (level_alone l' f u' v') =
-    let same : l ≡ l' = cc in budgets b c (u ∙ sym u') (number_one GREATEST_LEVEL l l' _ _ same v v')
+    let same : l ≡ l' = cc in budgets b c (u ∙ sym u') (number_one 2 l l' _ _ same v v')
 one b c words (level_alone l e u v) (weight_first w l' f n) = cc
 one b c words (level_alone l e u v) (level_first w l' f n) = cc
 one b c words (weight_first w l e m) (no_option f u' v') = cc
@@ -80,22 +79,22 @@ one b c words (level_first w l e m) (level_first w' l' f n) =
 pub options_one : (b c : Budget) (words : List (List ℕ)) → AreOptions b words → AreOptions c words → b ≡ c
 options_one b c words o p = one b c words (standing b words o) (standing c words p)
 
-within : (b : Budget) (words : List (List ℕ)) → Standing b words → (b.weight ≤ GREATEST_WEIGHT) × (b.level ≤ GREATEST_LEVEL)
+within : (b : Budget) (words : List (List ℕ)) → Standing b words → (b.weight ≤ 64) × (b.level ≤ 2)
 within b words (no_option e u v) = (omega (arith, u), omega (arith, v))
 within b words (weight_alone w e u v) = (u.1, omega (arith, v))
 within b words (level_alone l e u v) = (omega (arith, u), v.1)
 within b words (weight_first w l e n) = (n.0.1, n.1.1)
 within b words (level_first w l e n) = (n.0.1, n.1.1)
 
-pub options_within : (b : Budget) (words : List (List ℕ)) → AreOptions b words → (b.weight ≤ GREATEST_WEIGHT) × (b.level ≤ GREATEST_LEVEL)
+pub options_within : (b : Budget) (words : List (List ℕ)) → AreOptions b words → (b.weight ≤ 64) × (b.level ≤ 2)
 options_within b words o = within b words (standing b words o)
 
 -- Two words and four
 
 abbrev pub IsOne : Budget → List ℕ → List ℕ → Type 0
 IsOne b name number =
-    ((name ≡ codes "--weight") × IsNumberUpTo GREATEST_WEIGHT number b.weight × (b.level ≡ USUAL_LEVEL))
-    ⊎ ((name ≡ codes "--level") × (b.weight ≡ USUAL_WEIGHT) × IsNumberUpTo GREATEST_LEVEL number b.level)
+    ((name ≡ codes "--weight") × IsNumberUpTo 64 number b.weight × (b.level ≡ 1))
+    ⊎ ((name ≡ codes "--level") × (b.weight ≡ 6) × IsNumberUpTo 2 number b.level)
 
 one_of : (b : Budget) (name number : List ℕ) → Standing b (name ∷ number ∷ []) → IsOne b name number
 one_of b name number (no_option e u v) = cc
@@ -135,11 +134,11 @@ pub two_options :
     (b : Budget) (first number second other : List ℕ) → AreOptions b (first ∷ number ∷ second ∷ other ∷ []) → AreTwo b first number second other
 two_options b first number second other o = two_of b first number second other (standing b _ o)
 
-pub weight_set : (b : Budget) (number : List ℕ) → IsNumberUpTo GREATEST_WEIGHT number b.weight → b.level ≡ USUAL_LEVEL → AreOptions b (codes "--weight" ∷ number ∷ [])
+pub weight_set : (b : Budget) (number : List ℕ) → IsNumberUpTo 64 number b.weight → b.level ≡ 1 → AreOptions b (codes "--weight" ∷ number ∷ [])
 weight_set b number u v =
     record { weight_words = codes "--weight" ∷ number ∷ []; level_words = []; weight = inr (number, refl, u); level = inl (refl, v); both = inl refl }
 
-pub level_set : (b : Budget) (number : List ℕ) → b.weight ≡ USUAL_WEIGHT → IsNumberUpTo GREATEST_LEVEL number b.level → AreOptions b (codes "--level" ∷ number ∷ [])
+pub level_set : (b : Budget) (number : List ℕ) → b.weight ≡ 6 → IsNumberUpTo 2 number b.level → AreOptions b (codes "--level" ∷ number ∷ [])
 level_set b number u v =
     record { weight_words = []; level_words = codes "--level" ∷ number ∷ []; weight = inl (refl, u); level = inr (number, refl, v); both = inl refl }
 
@@ -163,7 +162,7 @@ both_set_turned b w l n =
       both = inr refl;
     }
 
-pub none_set : (b : Budget) → b.weight ≡ USUAL_WEIGHT → b.level ≡ USUAL_LEVEL → AreOptions b []
+pub none_set : (b : Budget) → b.weight ≡ 6 → b.level ≡ 1 → AreOptions b []
 none_set b u v = record { weight_words = []; level_words = []; weight = inl (refl, u); level = inl (refl, v); both = inl refl }
 
 -- both are set exactly where both numbers are
@@ -205,7 +204,7 @@ four_words (a' ∷ b' ∷ c' ∷ []) a b c d x y z w e f g h low high p q r s = 
 four_words (a' ∷ b' ∷ c' ∷ d' ∷ []) a b c d x y z w e f g h low high p q r s = cc
 four_words (a' ∷ b' ∷ c' ∷ d' ∷ e' ∷ l) a b c d x y z w e f g h low high p q r s = absurd (omega (arith, high))
 
-pub no_words : (b : Budget) (l : Words) → length l < 1 → b.weight ≡ USUAL_WEIGHT → b.level ≡ USUAL_LEVEL → AreOptions b (map string_bytes l)
+pub no_words : (b : Budget) (l : Words) → length l < 1 → b.weight ≡ 6 → b.level ≡ 1 → AreOptions b (map string_bytes l)
 no_words b [] low u v = none_set b u v
 no_words b (a ∷ l) low u v = absurd (omega (arith, low))
 

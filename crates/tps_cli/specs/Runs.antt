@@ -3,7 +3,6 @@ use Rattle.std.specs.Prelude.{◌≡◌, ℕ, ◌≤◌, List, [], length, Optio
 use Rattle.std.specs.Io.KnownBytes.{Appends}
 use Rattle.tps_io.specs.Causes.{Rose}
 use Rattle.tps_io.specs.Stream.{TakesAll, HeldMore, AppendsFront}
-use Rattle.tps_cli.specs.declared.run.TheConstants.{LONGEST_INPUT}
 use Rattle.tps_cli.specs.declared.command.Command.{Command}
 use Rattle.tps_cli.specs.declared.status.Status.{Status}
 use Rattle.tps_cli.specs.declared.status.Status.TheVariants.{Done, No, Words, BadText, TooLong, ReadFault, WriteFault, Memory}
@@ -19,10 +18,10 @@ pub record Ends : Type 0 where
 abbrev pub NoReadFault : Ends → Ends → Type 0
 NoReadFault old new = new.read_faults ≡ old.read_faults
 
--- all bytes that the source had were read, no more than a command reads and with no fault
+-- all bytes that the source had were read, at most 1,048,576 and with no fault
 pub record IsWholeInput (left left' : Option (List ℕ)) (faults faults' : ℕ) (bytes : List ℕ) : Type 0 where
   pub read : TakesAll left left' bytes
-  pub within : length bytes ≤ LONGEST_INPUT
+  pub within : length bytes ≤ 1048576
   pub calm : faults' ≡ faults
 
 -- what was read of the input, where these were left and counted before and behind it: all of it where the command reads it, and nothing
@@ -55,7 +54,7 @@ Ran c old new Done = Finished c old new Done
 Ran c old new No = Finished c old new No
 Ran c old new Words = ⊥
 Ran c old new BadText = Answered c old new BadText [] × NothingWritten old new
-Ran c old new TooLong = ReadsInput c × HeldMore old.left LONGEST_INPUT × NothingWritten old new × NoReadFault old new
+Ran c old new TooLong = ReadsInput c × HeldMore old.left 1048576 × NothingWritten old new × NoReadFault old new
 Ran c old new ReadFault = ReadsInput c × Rose old.read_faults new.read_faults × NothingWritten old new
 Ran c old new WriteFault = CutShort c old new Done ⊎ CutShort c old new No
 Ran c old new Memory = NothingWritten old new

@@ -3,20 +3,18 @@ use Rattle.std.specs.Prelude.{◌≡◌, ◌≤◌, ℕ, List, [], ◌∷◌, ma
 use Rattle.std.specs.declared.alloc.Global.{Global}
 use Rattle.core_text.specs.Words.{numeral_of}
 use Rattle.tps_cli.specs.Options.{AreOptions}
-use Rattle.tps_cli.specs.declared.options.TheConstants.{GREATEST_WEIGHT, GREATEST_LEVEL}
-use Rattle.tps_cli.specs.declared.command.TheConstants.{LONGEST_CHAIN}
 use Rattle.tps_cli.specs.declared.command.Command.{Command}
 use Rattle.tps_cli.specs.declared.command.Command.TheVariants.{Prove, Check, Translate, Verify, Show, Etps, Generate}
 
--- a budget is up to the greatest weight and level, and a chain has at least one instance, and no more than the longest
+-- a budget has a weight up to 64 and a level up to 2, and a chain has 1 to 100 instances
 abbrev pub IsCommand : Command → Type 0
-IsCommand (Prove b) = (b.weight ≤ GREATEST_WEIGHT) × (b.level ≤ GREATEST_LEVEL)
+IsCommand (Prove b) = (b.weight ≤ 64) × (b.level ≤ 2)
 IsCommand Check = Unit {0}
 IsCommand Translate = Unit {0}
 IsCommand Verify = Unit {0}
 IsCommand Show = Unit {0}
 IsCommand Etps = Unit {0}
-IsCommand (Generate n) = (1 ≤ n) × (n ≤ LONGEST_CHAIN)
+IsCommand (Generate n) = (1 ≤ n) × (n ≤ 100)
 
 -- the words ask for the command
 abbrev pub AreWordsOf : Command → List (List ℕ) → Type 0

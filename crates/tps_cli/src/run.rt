@@ -29,7 +29,7 @@ pub const LONGEST_INPUT: u64 = 1_048_576;
 /// The bytes that a command reads: all that the source has, and none where the command reads nothing.
 fn input<S: Source>(alloc: Global, command: Command, source: &mut S) -> Result<Vec<u8>, ReadError>
     ensures read { IfOk result (λ bytes. WasRead command (S.left source.old) (S.left source.new) (S.faults source.old) (S.faults source.new) bytes.items) }
-    ensures too_long { result ≡ Err ReadError.TooLong → ReadsInput command × HeldMore (S.left source.old) LONGEST_INPUT × (S.faults source.new ≡ S.faults source.old) }
+    ensures too_long { result ≡ Err ReadError.TooLong → ReadsInput command × HeldMore (S.left source.old) 1048576 × (S.faults source.new ≡ S.faults source.old) }
     ensures fault { result ≡ Err ReadError.Fault → ReadsInput command × Rose (S.faults source.old) (S.faults source.new) }
     ensures unread { (ReadsInput command → ⊥) → source.new ≡ source.old }
 {
