@@ -1,6 +1,6 @@
 //! The command `generate`.
 
-ghost use Rattle.std.specs.Prelude.{◌≡◌, ◌++◌, ◌≤◌, IfOk, OnOk, length};
+ghost use Rattle.std.specs.Prelude.{◌≡◌, ◌++◌, ◌≤◌, ◌↔◌, IfOk, IsTrue, OnOk, length};
 ghost use Rattle.expansion_tree.specs.Occurrences.{occurrences_of, tree_weight};
 ghost use Rattle.exp_check.specs.Accepted.{IsAccepted, proof_of};
 ghost use Rattle.tps_gen.specs.Chains.{HasFigures};
@@ -12,7 +12,7 @@ use crate::proof::accepted;
 use core_text::writers::append_number;
 use exp_check::accepted::Accepted;
 use hol_terms::lists::Text;
-use nd_check::verifying::verify;
+use nd_check::verifying::{VerifyFault, verify};
 use outline_translate::translate::translate;
 use std::alloc::{AllocError, Global};
 use tps_gen::chains::chain;
@@ -80,12 +80,24 @@ fn accepted_chain(alloc: Global, n: u64) -> Result<Accepted, AllocError>
     }
 }
 
-/// Translates the proof and verifies what comes of it: a derivation, which is refused only where memory is wanting.
+/// Whether memory was wanting.
+fn wanted_memory(fault: &VerifyFault) -> bool
+    ensures { IsTrue result ↔ (fault.now ≡ VerifyFault.Memory) }
+{
+    matches!(fault, VerifyFault::Memory)
+}
+
+/// Translates the proof and verifies what comes of it. As this is a derivation, it is never refused.
 fn verified(alloc: Global, accepted: &Accepted) -> Result<(), AllocError> {
     let outline = translate(alloc, accepted)?;
     match verify(alloc, &outline) {
         Ok(()) => Ok(()),
-        Err(_) => Err(AllocError),
+        Err(fault) => {
+            if wanted_memory(&fault) {
+                return Err(AllocError);
+            }
+            unreachable!()
+        }
     }
 }
 
