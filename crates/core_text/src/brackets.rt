@@ -6,7 +6,7 @@ ghost use Rattle.core_text.specs.Forms.{AreWellSpelled, Form, IsTextOf, IsWellSp
 ghost use Rattle.core_text.specs.Lexed.{plain_piece};
 ghost use Rattle.core_text.specs.Open.{HasGoodItems, layout_of_items, open_layout};
 ghost use Rattle.core_text.specs.Placed.{form_of, forms, kept, layout, layout_of_all, placed, placed_all};
-ghost use Rattle.core_text.specs.Tokens.{piece, pieces, word};
+ghost use Rattle.core_text.specs.Tokens.{closing, opening, piece, pieces, word};
 ghost use Rattle.core_text.specs.Words.{is_good};
 
 use crate::faults::TextFault;
@@ -77,6 +77,38 @@ fn deliver(frames: &mut Vec<Frame>, item: Sexp) -> Result<Option<Sexp>, TextFaul
     }
 }
 
+/// Opens a bracket.
+fn open(alloc: Global, frames: &mut Vec<Frame>, place: u64) -> Result<(), TextFault>
+    requires { length frames.old.items ≤ 5000 }
+    ensures layout { IfOk result (λ _. open_layout frames.new.items ≡ open_layout frames.old.items ++ piece opening place ∷ []) }
+    ensures good { All HasGoodItems frames.old.items → IfOk result (λ _. All HasGoodItems frames.new.items) }
+    ensures depth { IfOk result (λ _. (length frames.new.items ≡ length frames.old.items + 1) × (length frames.old.items < 5000)) }
+    ensures clean { IfOk result (λ _. cause (length frames.old.items) (nat_lt 0 (length frames.old.items)) (piece opening place) ≡ None) }
+    ensures fault { IfErr result (λ e. IsFaultUnlessMemory e (cause (length frames.old.items) (nat_lt 0 (length frames.old.items)) (piece opening place))) }
+{
+    if frames.len() == DEEPEST {
+        return Err(TextFault::TooDeep(place));
+    }
+    let items = Vec::new(alloc);
+    frames.push(Frame { place, items })?;
+    Ok(())
+}
+
+/// Takes away the innermost open bracket: its list, which is whole.
+fn close(alloc: Global, frames: &mut Vec<Frame>, here: u64) -> Result<Sexp, TextFault>
+    ensures layout { IfOk result (λ s. open_layout frames.old.items ++ piece closing 0 ∷ [] ≡ open_layout frames.new.items ++ layout (placed s)) }
+    ensures good { All HasGoodItems frames.old.items → IfOk result (λ s. IsWellSpelled (form_of s) × All HasGoodItems frames.new.items) }
+    ensures depth { IfOk result (λ _. length frames.new.items + 1 ≡ length frames.old.items) }
+    ensures fault { IfErr result (λ e. IsFaultUnlessMemory e (cause (length frames.old.items) (nat_lt 0 (length frames.old.items)) (piece closing here))) }
+{
+    let Some(frame) = frames.pop() else {
+        return Err(TextFault::Unbalanced(here));
+    };
+    let Frame { place, items } = frame;
+    let all = members(alloc, items)?;
+    Ok(Sexp::List(all, place))
+}
+
 /// Takes one piece more: a whole form, or nothing yet.
 fn take_piece(
     alloc: Global,
@@ -95,11 +127,7 @@ fn take_piece(
 {
     match piece {
         Piece::Opening(place) => {
-            if frames.len() == DEEPEST {
-                return Err(TextFault::TooDeep(place));
-            }
-            let items = Vec::new(alloc);
-            frames.push(Frame { place, items })?;
+            open(alloc, frames, place)?;
             Ok(None)
         }
         Piece::Word(bytes, place) => {
@@ -107,12 +135,8 @@ fn take_piece(
             deliver(frames, item)
         }
         Piece::Closing(place) => {
-            let Some(frame) = frames.pop() else {
-                return Err(TextFault::Unbalanced(place));
-            };
-            let Frame { place, items } = frame;
-            let all = members(alloc, items)?;
-            deliver(frames, Sexp::List(all, place))
+            let item = close(alloc, frames, place)?;
+            deliver(frames, item)
         }
     }
 }

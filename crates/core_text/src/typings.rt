@@ -1,8 +1,8 @@
 //! Terms judged together with their forms: the first loose index, and the first application whose parts don't fit.
 
-ghost use Rattle.std.specs.Prelude.{◌≡◌, ◌≢◌, ◌↔◌, [], IfErr, IfOk, IsTrue};
-ghost use Rattle.hol_terms.specs.Terms.{SimpleType, plain_term, plain_type};
-ghost use Rattle.hol_terms.specs.Typing.{Typed};
+ghost use Rattle.std.specs.Prelude.{◌≡◌, ◌≢◌, ◌↔◌, [], IfErr, IfOk, IsTrue, Ok};
+ghost use Rattle.hol_terms.specs.Terms.{SimpleType, function_type, plain_constant, plain_term, plain_type};
+ghost use Rattle.hol_terms.specs.Typing.{Typed, type_of_constant};
 ghost use Rattle.core_text.specs.Judged.{Answers, applied_at, judged_at, loose_index_at, typing_at, with_fault};
 ghost use Rattle.core_text.specs.Known.{known_type};
 ghost use Rattle.core_text.specs.Placed.{placed};
@@ -10,7 +10,7 @@ ghost use Rattle.core_text.specs.Placed.{placed};
 use crate::faults::TextFault;
 use crate::sexps::Sexp;
 use hol_terms::scopes::Scope;
-use hol_terms::terms::Tm;
+use hol_terms::terms::{Con, Tm};
 use hol_terms::types::Ty;
 use std::alloc::{AllocError, Global};
 
@@ -120,6 +120,20 @@ fn applied<'a>(
     }
 }
 
+/// The type of a constant.
+fn of_constant<'a>(alloc: Global, con: &Con) -> Result<Known<'a>, TextFault>
+    ensures { Answers known_type result (Ok (type_of_constant (plain_constant con.now))) }
+{
+    Ok(Known::Made(con.type_of(alloc)?))
+}
+
+/// The type of an abstraction.
+fn over<'a>(alloc: Global, ty: &'a Ty, result_type: Known<'a>) -> Result<Known<'a>, TextFault>
+    ensures { Answers known_type result (Ok (function_type (known_type result_type.entry) (plain_type ty.now))) }
+{
+    Ok(Known::Over(ty, Box::new(alloc, result_type)?))
+}
+
 /// The type of a part of a term.
 fn typing<'a>(
     alloc: Global,
@@ -136,7 +150,7 @@ fn typing<'a>(
             Some(ty) => Ok(Known::Lent(ty)),
             None => Err(TextFault::IllTyped(s.place())),
         },
-        Tm::Con(con) => Ok(Known::Made(con.type_of(alloc)?)),
+        Tm::Con(con) => of_constant(alloc, con),
         Tm::App(function, argument) => {
             let function = typing(alloc, scope, function, s.second())?;
             let argument = typing(alloc, scope, argument, s.third())?;
@@ -146,9 +160,17 @@ fn typing<'a>(
             scope.enter(ty)?;
             let result_type = typing(alloc, scope, body, s.third())?;
             scope.leave();
-            Ok(Known::Over(ty, Box::new(alloc, result_type)?))
+            over(alloc, ty, result_type)
         }
     }
+}
+
+/// The type of a term of no abstraction's scope.
+fn typing_alone<'a>(alloc: Global, t: &'a Tm, s: &Sexp) -> Result<Known<'a>, TextFault>
+    ensures { Answers known_type result (with_fault (λ k. TextFault.IllTyped k) (typing_at [] (plain_term t.now) (placed s.now))) }
+{
+    let mut scope = Scope::new(alloc);
+    typing(alloc, &mut scope, t, s)
 }
 
 /// The type of a term, or its first fault.
@@ -158,8 +180,7 @@ fn judged(alloc: Global, t: &Tm, s: &Sexp) -> Result<Ty, TextFault>
     if let Some(place) = loose_index(0, t, s)? {
         return Err(TextFault::LooseIndex(place));
     }
-    let mut scope = Scope::new(alloc);
-    let ty = typing(alloc, &mut scope, t, s)?;
+    let ty = typing_alone(alloc, t, s)?;
     Ok(ty.own(alloc)?)
 }
 
