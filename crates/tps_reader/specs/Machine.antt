@@ -1,5 +1,6 @@
 -- How formula text is read token by token, with what waits for an operand kept in a list.
 use Rattle.std.specs.Prelude.{ℕ, nat_lt, Bool, true, false, if◌then◌else◌, List, [], ◌∷◌, codes, encode_utf8_all, Option, Some, None}
+use Rattle.std.specs.Option.{option_map}
 use Rattle.hol_terms.specs.Terms.{SimpleType, Constant, negation}
 use Rattle.core_text.specs.Words.{is_name, same_bytes}
 use Rattle.tps_reader.specs.Grammar.{infix_constant, infix_rank, is_letters, joined, moved, quantifier_constant, right_rank, truth_constant, with_letters}
@@ -103,6 +104,20 @@ with_atom fs v = ((settled 6 fs v).0, having (settled 6 fs v).1)
 abbrev pub to_end : Option Constant → List Frame → ℕ → Option State
 to_end None fs place = None
 to_end (Some con) fs place = Some (fs, ending con place)
+
+-- the place of an open bracket
+abbrev pub bracket_place : Frame → Option ℕ
+bracket_place (open_bracket place) = Some place
+bracket_place (open_dot place) = None
+bracket_place (open_negation place) = None
+bracket_place (open_binding b name ty place) = None
+bracket_place (open_side op left) = None
+bracket_place (open_application f) = None
+
+-- the place of the innermost frame, where it is an open bracket, and what is around it
+abbrev pub opened : List Frame → Option (ℕ × List Frame)
+opened [] = None
+opened (f ∷ fs) = option_map (λ place. (place, fs)) (bracket_place f)
 
 -- a connective in brackets of its own
 abbrev pub lone_connective : Infix → List Frame → Option State

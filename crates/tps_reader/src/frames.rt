@@ -1,9 +1,11 @@
 //! What waits for an operand while a phrase is read.
 
-ghost use Rattle.std.specs.Prelude.{◌≡◌, IfOk};
+ghost use Rattle.std.specs.Prelude.{◌≡◌, ◌∷◌, IfOk, List, None, if◌then◌else◌};
+ghost use Rattle.std.specs.Option.{option_map};
+ghost use Rattle.hol_terms.specs.Terms.{negation, plain_type};
 ghost use Rattle.tps_reader.specs.Grammar.{infix_rank, right_rank};
-ghost use Rattle.tps_reader.specs.Machine.{filled, settled, waiting, wanted_rank, with_atom};
-ghost use Rattle.tps_reader.specs.Raws.{plain_raw};
+ghost use Rattle.tps_reader.specs.Machine.{Frame as PlainFrame, bracket_place, filled, in_bracket, lone_negation, settled, waiting, wanted_rank, with_atom};
+ghost use Rattle.tps_reader.specs.Raws.{place_of, plain_raw, raw_application, raw_binding, raw_connective, raw_negation};
 ghost use Rattle.tps_reader.specs.Reader.{plain_frame, plain_frames, plain_state};
 
 use crate::raws::{Binder, Infix, Raw};
@@ -87,6 +89,26 @@ impl Frame {
         }
     }
 
+    /// The place of an open bracket.
+    pub fn bracket_place(&self) -> Option<u64>
+        ensures { result ≡ bracket_place (plain_frame self.now) }
+    {
+        match self {
+            Frame::Bracket(place) => Some(*place),
+            _ => None,
+        }
+    }
+
+    /// Whether the frame is a negation.
+    pub fn is_negation(&self) -> bool
+        ensures { (around : List PlainFrame) → lone_negation (plain_frame self.now ∷ around) ≡ (if result then in_bracket negation around else None) }
+    {
+        match self {
+            Frame::Negation(_) => true,
+            _ => false,
+        }
+    }
+
     /// The phrase with its operand.
     fn fill(self, alloc: Global, operand: Raw) -> Result<Raw, AllocError>
         ensures { IfOk result (λ phrase. plain_raw phrase ≡ filled (plain_frame self) (plain_raw operand)) }
@@ -94,22 +116,63 @@ impl Frame {
         match self {
             Frame::Bracket(place) => Ok(operand.moved(place)),
             Frame::Dot(place) => Ok(operand.moved(place)),
-            Frame::Negation(place) => Ok(Raw::Not(Box::new(alloc, operand)?, place)),
+            Frame::Negation(place) => negation(alloc, operand, place),
             Frame::Binding(binder, name, ty, place) => {
-                Ok(Raw::Bind(binder, name, ty, Box::new(alloc, operand)?, place))
+                bound(alloc, binder, name, ty, operand, place)
             }
-            Frame::Side(op, left) => {
-                let place = left.place();
-                let left = Box::new(alloc, left)?;
-                Ok(Raw::Bin(op, left, Box::new(alloc, operand)?, place))
-            }
-            Frame::Application(function) => {
-                let place = function.place();
-                let function = Box::new(alloc, function)?;
-                Ok(Raw::App(function, Box::new(alloc, operand)?, place))
-            }
+            Frame::Side(op, left) => between(alloc, op, left, operand),
+            Frame::Application(function) => applied(alloc, function, operand),
         }
     }
+}
+
+/// A phrase in a box.
+fn boxed(alloc: Global, phrase: Raw) -> Result<Box<Raw>, AllocError>
+    ensures { IfOk result (λ part. plain_raw part.value ≡ plain_raw phrase) }
+{
+    Ok(Box::new(alloc, phrase)?)
+}
+
+/// The negation of a phrase.
+fn negation(alloc: Global, operand: Raw, place: u64) -> Result<Raw, AllocError>
+    ensures { IfOk result (λ phrase. plain_raw phrase ≡ raw_negation (plain_raw operand) place) }
+{
+    Ok(Raw::Not(boxed(alloc, operand)?, place))
+}
+
+/// A phrase behind a binder and its variable.
+fn bound(
+    alloc: Global,
+    binder: Binder,
+    name: Name,
+    ty: Option<Ty>,
+    operand: Raw,
+    place: u64,
+) -> Result<Raw, AllocError>
+    ensures { IfOk result (λ phrase. plain_raw phrase ≡ raw_binding binder name (option_map plain_type ty) (plain_raw operand) place) }
+{
+    let body = boxed(alloc, operand)?;
+    Ok(Raw::Bind(binder, name, ty, body, place))
+}
+
+/// A connective between two phrases.
+fn between(alloc: Global, op: Infix, left: Raw, right: Raw) -> Result<Raw, AllocError>
+    ensures { IfOk result (λ phrase. plain_raw phrase ≡ raw_connective op (plain_raw left) (plain_raw right) (place_of (plain_raw left))) }
+{
+    let place = left.place();
+    let left = boxed(alloc, left)?;
+    let right = boxed(alloc, right)?;
+    Ok(Raw::Bin(op, left, right, place))
+}
+
+/// A phrase that is applied to another one.
+fn applied(alloc: Global, function: Raw, argument: Raw) -> Result<Raw, AllocError>
+    ensures { IfOk result (λ phrase. plain_raw phrase ≡ raw_application (plain_raw function) (plain_raw argument) (place_of (plain_raw function))) }
+{
+    let place = function.place();
+    let function = boxed(alloc, function)?;
+    let argument = boxed(alloc, argument)?;
+    Ok(Raw::App(function, argument, place))
 }
 
 /// Each frame whose operand has to bind tighter than `least` takes it, the innermost first.

@@ -1,11 +1,11 @@
 //! Phrases, read token by token.
 
-ghost use Rattle.std.specs.Prelude.{◌≡◌, ◌-◌, ◌≢◌, IfErr, IfOk, None, Some};
+ghost use Rattle.std.specs.Prelude.{◌≡◌, ◌-◌, ◌≢◌, IfErr, IfOk, None, Some, if◌then◌else◌};
 ghost use Rattle.std.specs.Option.{option_map};
-ghost use Rattle.hol_terms.specs.Terms.{plain_constant};
+ghost use Rattle.hol_terms.specs.Terms.{negation, plain_constant};
 ghost use Rattle.tps_reader.specs.Faults.{IsPhraseFault};
 ghost use Rattle.tps_reader.specs.Grammar.{IsFormula, infix_constant, truth_constant};
-ghost use Rattle.tps_reader.specs.Machine.{after_bound, after_name, bind, constant_end, finish, group_end, have, in_bracket, lone_connective, lone_negation, parsed, quantifier_type, step, want};
+ghost use Rattle.tps_reader.specs.Machine.{after_bound, after_name, bind, constant_end, finish, group_end, have, in_bracket, lone_connective, lone_negation, opened, parsed, quantifier_type, step, want};
 ghost use Rattle.tps_reader.specs.Parsing.{IsParseFault};
 ghost use Rattle.tps_reader.specs.Raws.{RawFormula, plain_raw};
 ghost use Rattle.tps_reader.specs.Reader.{Answers, plain_frames, plain_mode, plain_role, plain_state};
@@ -41,11 +41,32 @@ fn truth_constant(value: bool) -> Con
     if value { Con::Truth } else { Con::Falsehood }
 }
 
+/// The place of the innermost frame, an open bracket, which is taken away.
+fn take_bracket(frames: &mut Vec<Frame>) -> Option<u64>
+    ensures { opened (plain_frames frames.old.items) ≡ option_map (λ place. (place, plain_frames frames.new.items)) result }
+{
+    let place = frames.last()?.bracket_place()?;
+    frames.truncate(frames.len() - 1);
+    Some(place)
+}
+
+/// Takes away the innermost frame, and tells whether it was a negation.
+fn take_negation(frames: &mut Vec<Frame>) -> bool
+    ensures { lone_negation (plain_frames frames.old.items) ≡ (if result then in_bracket negation (plain_frames frames.new.items) else None) }
+{
+    let Some(frame) = frames.last() else {
+        return false;
+    };
+    let is_negation = frame.is_negation();
+    frames.truncate(frames.len() - 1);
+    is_negation
+}
+
 /// A connective in brackets of its own.
 fn lone_connective(frames: &mut Vec<Frame>, op: Infix, here: u64) -> Result<Mode, RawFault>
     ensures { Answers here (lone_connective op (plain_frames frames.old.items)) frames.new.items result }
 {
-    let Some(Frame::Bracket(place)) = frames.pop() else {
+    let Some(place) = take_bracket(frames) else {
         return Err(RawFault::Unexpected(here));
     };
     match infix_constant(op) {
@@ -58,7 +79,7 @@ fn lone_connective(frames: &mut Vec<Frame>, op: Infix, here: u64) -> Result<Mode
 fn in_bracket(alloc: Global, frames: &mut Vec<Frame>, con: Con, here: u64) -> Result<Mode, RawFault>
     ensures { Answers here (in_bracket (plain_constant con) (plain_frames frames.old.items)) frames.new.items result }
 {
-    let Some(Frame::Bracket(place)) = frames.pop() else {
+    let Some(place) = take_bracket(frames) else {
         return Err(RawFault::Unexpected(here));
     };
     Ok(with_atom(alloc, frames, Raw::Con(con, place))?)
@@ -68,9 +89,9 @@ fn in_bracket(alloc: Global, frames: &mut Vec<Frame>, con: Con, here: u64) -> Re
 fn lone_negation(alloc: Global, frames: &mut Vec<Frame>, here: u64) -> Result<Mode, RawFault>
     ensures { Answers here (lone_negation (plain_frames frames.old.items)) frames.new.items result }
 {
-    let Some(Frame::Negation(_)) = frames.pop() else {
+    if !take_negation(frames) {
         return Err(RawFault::Unexpected(here));
-    };
+    }
     in_bracket(alloc, frames, Con::Not, here)
 }
 
@@ -101,7 +122,7 @@ fn group_end(
 ) -> Result<Mode, RawFault>
     ensures { Answers here (group_end (plain_frames frames.old.items) (plain_raw group)) frames.new.items result }
 {
-    let Some(Frame::Bracket(place)) = frames.pop() else {
+    let Some(place) = take_bracket(frames) else {
         return Err(RawFault::Unexpected(here));
     };
     Ok(with_atom(alloc, frames, group.moved(place))?)
@@ -164,7 +185,7 @@ fn quantifier_type(
 ) -> Result<Mode, RawFault>
     ensures { Answers here (quantifier_type binder (plain_frames frames.old.items)) frames.new.items result }
 {
-    let Some(Frame::Bracket(place)) = frames.pop() else {
+    let Some(place) = take_bracket(frames) else {
         return Err(RawFault::Unexpected(here));
     };
     match binder {
