@@ -7,3 +7,4 @@ pub mod Returning
 pub mod Stepping
 pub mod Walks
 pub mod Tautologies
+pub mod Faulting

@@ -83,9 +83,10 @@ fn stand_leaf(
     ensures ok { IfOk result (λ r. Stood positive (plain_term formula) leaf_node node (findings_of found.old) (findings_of found.new) r.0 r.1) }
     ensures err { IfErr result (λ e. e ≡ FitFault.Memory) }
 {
-    let end = next(node)?;
-    let number = next(found.leaves.len() as u64)?;
+    let before = found.leaves.len() as u64;
     found.add_leaf(positive, formula)?;
+    let number = next(before)?;
+    let end = next(node)?;
     Ok((Matrix::Leaf(number), end))
 }
 

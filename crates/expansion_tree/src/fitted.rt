@@ -1,15 +1,17 @@
 //! Trees fitted to formulas.
 
-ghost use Rattle.std.specs.Prelude.{◌≡◌, ◌-◌, ◌≤◌, IfErr, IfOk, Some, length, map, slice_get};
-ghost use Rattle.hol_terms.specs.Terms.{plain_term, plain_type};
+ghost use Rattle.std.specs.Prelude.{◌≡◌, ◌-◌, ◌≤◌, ℕ, [], IfErr, IfOk, Some, length, map, slice_get, true};
+ghost use Rattle.hol_terms.specs.FreeVariables.{free_variables_of};
+ghost use Rattle.hol_terms.specs.Terms.{Term, plain_term, plain_type};
 ghost use Rattle.hol_terms.specs.Typing.{IsFormula};
-ghost use Rattle.expansion_tree.specs.Faults.{IsFirstFault, IsTree};
+ghost use Rattle.expansion_tree.specs.Counted.{plain_occurrence};
+ghost use Rattle.expansion_tree.specs.Faults.{FirstFault, IsFirstFault, IsTree};
 ghost use Rattle.expansion_tree.specs.Fitted.{IsFitted};
 ghost use Rattle.expansion_tree.specs.Kept.{fitted_with};
 ghost use Rattle.expansion_tree.specs.Matrices.{IsNumberedTo, matrix_paths};
 ghost use Rattle.expansion_tree.specs.Occurrences.{occurrences_of, tree_weight};
-ghost use Rattle.expansion_tree.specs.Standing.{Standing};
-ghost use Rattle.expansion_tree.specs.Stood.{UnlessMemory};
+ghost use Rattle.expansion_tree.specs.Standing.{IsNormalFormula, Standing};
+ghost use Rattle.expansion_tree.specs.Stood.{Stood, UnlessMemory, findings_of};
 ghost use Rattle.expansion_tree.specs.Trees.{plain_tree};
 
 use crate::faults::FitFault;
@@ -58,6 +60,15 @@ impl Model for Fitted {
     ghost invariant = { λ f. IsFitted (record { formula = plain_term f.formula; tree = plain_tree f.tree; leaf_list = map plain_leaf f.leaves.items; selection_list = map plain_selection f.selections.items; path_list = matrix_paths f.matrix }) × IsNumberedTo (length f.leaves.items) f.matrix × (map plain_occurrence f.occurrences.items ≡ occurrences_of (plain_tree f.tree)) × (f.weight ≡ tree_weight (plain_tree f.tree)) };
 }
 
+/// What a tree has at a formula: its matrix, what was found along it, its occurrences and its weight.
+#[derive(Drop)]
+struct Parts {
+    matrix: Matrix,
+    found: Found,
+    occurrences: Vec<Occurrence>,
+    weight: u64,
+}
+
 /// A leaf as it is lent: whether it is positive, and its formula.
 #[derive(Clone, Copy)]
 pub struct LeafView<'a> {
@@ -82,6 +93,34 @@ pub struct SelectedView<'a> {
     pub ty: &'a Ty,
 }
 
+/// Nothing that was found, where the variables that are free in the formula are taken.
+fn nothing_found(alloc: Global, formula: &Tm) -> Result<Found, AllocError>
+    ensures { IfOk result (λ found. findings_of found ≡ record { leaf_list = []; selection_list = []; taken = free_variables_of (plain_term formula.now) }) }
+{
+    let taken = free_variable_set(alloc, formula)?;
+    Ok(Found {
+        leaves: Vec::new(alloc),
+        selections: Vec::new(alloc),
+        taken,
+    })
+}
+
+/// Stands the tree at the long normal form of the formula, positive.
+fn stand_at_normal(
+    alloc: Global,
+    formula: &Tm,
+    tree: &Tree,
+    found: &mut Found,
+) -> Result<Matrix, FitFault>
+    requires { IsFormula (plain_term formula.now) }
+    ensures ok { IfOk result (λ m. (a : Term) × IsNormalFormula a (plain_term formula.now) × (end : ℕ) × Stood true a (plain_tree tree.now) 1 (findings_of found.old) (findings_of found.new) m end) }
+    ensures fault { IfErr result (λ e. UnlessMemory e ((a : Term) × IsNormalFormula a (plain_term formula.now) × FirstFault found.old.taken true a (plain_tree tree.now) 1 e)) }
+{
+    let formula = normal(alloc, formula)?;
+    let (matrix, _) = stand(alloc, tree, 1, true, formula, found)?;
+    Ok(matrix)
+}
+
 /// Stands the tree at the long normal form of the formula, positive, where no variable is selected that is free in the formula as it
 /// is given.
 #[inline(never)]
@@ -91,56 +130,82 @@ fn stand_at_formula(alloc: Global, formula: &Tm, tree: &Tree) -> Result<(Matrix,
     ensures numbered { IfOk result (λ r. IsNumberedTo (length r.1.leaves.items) r.0) }
     ensures fault { IfErr result (λ e. UnlessMemory e (IsFirstFault (plain_term formula.now) (plain_tree tree.now) e)) }
 {
-    let mut found = Found {
-        leaves: Vec::new(alloc),
-        selections: Vec::new(alloc),
-        taken: free_variable_set(alloc, formula)?,
-    };
-    let formula = normal(alloc, formula)?;
-    let (matrix, _) = stand(alloc, tree, 1, true, formula, &mut found)?;
+    let mut found = nothing_found(alloc, formula)?;
+    let matrix = stand_at_normal(alloc, formula, tree, &mut found)?;
     Ok((matrix, found))
 }
 
-/// The formula with the tree and what it has there.
-fn keep(
-    alloc: Global,
-    formula: Tm,
-    tree: Tree,
-    matrix: Matrix,
-    found: Found,
-) -> Result<Fitted, AllocError>
-    requires fits { IsFitted (fitted_with (plain_term formula) (plain_tree tree) found matrix) }
-    requires numbered { IsNumberedTo (length found.leaves.items) matrix }
-    ensures { IfOk result (λ f. f ≡ fitted_with (plain_term formula) (plain_tree tree) found matrix) }
+/// The occurrences of the tree, and its weight.
+fn counted(alloc: Global, tree: &Tree) -> Result<(Vec<Occurrence>, u64), AllocError>
+    ensures occurrences { IfOk result (λ r. map plain_occurrence r.0.items ≡ occurrences_of (plain_tree tree.now)) }
+    ensures weight { IfOk result (λ r. r.1 ≡ tree_weight (plain_tree tree.now)) }
 {
     let mut occurrences = Vec::new(alloc);
-    add_occurrences(alloc, &tree, 1, &mut occurrences)?;
+    add_occurrences(alloc, tree, 1, &mut occurrences)?;
     let weight = weight_of_occurrences(&occurrences)?;
-    Ok(Fitted {
-        formula,
-        tree,
+    Ok((occurrences, weight))
+}
+
+/// What the tree has at the formula.
+fn parts_at(alloc: Global, formula: &Tm, tree: &Tree) -> Result<Parts, FitFault>
+    requires { IsFormula (plain_term formula.now) }
+    ensures fits { IfOk result (λ parts. IsFitted (fitted_with (plain_term formula.now) (plain_tree tree.now) parts.found parts.matrix)) }
+    ensures numbered { IfOk result (λ parts. IsNumberedTo (length parts.found.leaves.items) parts.matrix) }
+    ensures occurrences { IfOk result (λ parts. map plain_occurrence parts.occurrences.items ≡ occurrences_of (plain_tree tree.now)) }
+    ensures weight { IfOk result (λ parts. parts.weight ≡ tree_weight (plain_tree tree.now)) }
+    ensures fault { IfErr result (λ e. UnlessMemory e (IsFirstFault (plain_term formula.now) (plain_tree tree.now) e)) }
+{
+    let (occurrences, weight) = counted(alloc, tree)?;
+    let (matrix, found) = stand_at_formula(alloc, formula, tree)?;
+    Ok(Parts {
         matrix,
-        leaves: found.leaves,
-        selections: found.selections,
+        found,
         occurrences,
         weight,
     })
 }
 
+/// The formula with the tree and what it has there.
+fn keep(formula: Tm, tree: Tree, parts: Parts) -> Fitted
+    requires fits { IsFitted (fitted_with (plain_term formula) (plain_tree tree) parts.found parts.matrix) }
+    requires numbered { IsNumberedTo (length parts.found.leaves.items) parts.matrix }
+    requires occurrences { map plain_occurrence parts.occurrences.items ≡ occurrences_of (plain_tree tree) }
+    requires weight { parts.weight ≡ tree_weight (plain_tree tree) }
+    ensures { result ≡ fitted_with (plain_term formula) (plain_tree tree) parts.found parts.matrix }
+{
+    let Parts {
+        matrix,
+        found,
+        occurrences,
+        weight,
+    } = parts;
+    let Found {
+        leaves,
+        selections,
+        taken: _,
+    } = found;
+    Fitted {
+        formula,
+        tree,
+        matrix,
+        leaves,
+        selections,
+        occurrences,
+        weight,
+    }
+}
+
 /// Fits the tree to the formula, keeping equal copies of both: Ok exactly where it is an expansion tree of the formula (Miller 1987),
 /// and otherwise its first fault in preorder, nodes being numbered from 1, each branch's term before its tree.
-#[tactic(auto, using(crate::proofs::Returning::no_tree))]
 pub fn fit(alloc: Global, formula: &Tm, tree: &Tree) -> Result<Fitted, FitFault>
     requires { IsFormula (plain_term formula.now) }
     ensures fits { IfOk result (λ f. IsFitted f × (f.formula ≡ plain_term formula.now) × (f.tree ≡ plain_tree tree.now)) }
     ensures fault { IfErr result (λ e. UnlessMemory e (IsFirstFault (plain_term formula.now) (plain_tree tree.now) e)) }
     ensures only { IfErr result (λ e. UnlessMemory e ((s : Standing) → IsTree (plain_term formula.now) (plain_tree tree.now) s → ⊥)) }
 {
-    let (matrix, found) = stand_at_formula(alloc, formula, tree)?;
     let formula = copy(alloc, formula)?;
     let tree = tree.copy(alloc)?;
-    let fitted = keep(alloc, formula, tree, matrix, found)?;
-    Ok(fitted)
+    Fitted::new(alloc, formula, tree)
 }
 
 impl Fitted {
@@ -152,9 +217,8 @@ impl Fitted {
         ensures fault { IfErr result (λ e. UnlessMemory e (IsFirstFault (plain_term formula) (plain_tree tree) e)) }
         ensures only { IfErr result (λ e. UnlessMemory e ((s : Standing) → IsTree (plain_term formula) (plain_tree tree) s → ⊥)) }
     {
-        let (matrix, found) = stand_at_formula(alloc, &formula, &tree)?;
-        let fitted = keep(alloc, formula, tree, matrix, found)?;
-        Ok(fitted)
+        let parts = parts_at(alloc, &formula, &tree)?;
+        Ok(keep(formula, tree, parts))
     }
 
     /// The formula.

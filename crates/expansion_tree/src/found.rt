@@ -2,7 +2,7 @@
 
 ghost use Rattle.std.specs.Prelude.{◌≡◌, ◌++◌, ◌∷◌, [], Contains, IfOk, OnErr, OnOk, map, true, false};
 ghost use Rattle.hol_terms.specs.Terms.{plain_term, plain_type};
-ghost use Rattle.expansion_tree.specs.Stood.{MayHaveTaken, findings_of, with_more};
+ghost use Rattle.expansion_tree.specs.Stood.{MayHaveTaken, findings_of, plain_selection, with_more};
 
 use hol_terms::names::Name;
 use hol_terms::terms::Tm;
@@ -34,6 +34,15 @@ pub struct Found {
     pub taken: VariableSet,
 }
 
+/// The variable, copied, with the number of the node that selects it.
+fn selected_at(alloc: Global, node: u64, name: &Name, ty: &Ty) -> Result<Selected, AllocError>
+    ensures { IfOk result (λ selected. plain_selection selected ≡ record { node = node; variable = (name.now, plain_type ty.now) }) }
+{
+    let name = name.copy(alloc)?;
+    let ty = ty.copy(alloc)?;
+    Ok(Selected { node, name, ty })
+}
+
 impl Found {
     /// Puts a leaf behind the others. An `Err` changes nothing.
     #[inline(never)]
@@ -63,9 +72,8 @@ impl Found {
         if !self.taken.insert(name, ty)? {
             return Ok(false);
         }
-        let name = name.copy(alloc)?;
-        let ty = ty.copy(alloc)?;
-        self.selections.push(Selected { node, name, ty })?;
+        let selected = selected_at(alloc, node, name, ty)?;
+        self.selections.push(selected)?;
         Ok(true)
     }
 }

@@ -7,7 +7,20 @@ use Rattle.expansion_tree.specs.Trees.{plain_branches, plain_tree, branch, branc
 use Rattle.expansion_tree.proofs.Formulas.{expanding_is}
 use Rattle.expansion_tree.proofs.Walks.{compound_stood, expansion_stood}
 use Rattle.expansion_tree.proofs.Stepping.{constant_fault, negation_result, selection_result, selection_fault, one_more_stood, one_more_fault, all_stood, branch_fault}
+use Rattle.expansion_tree.specs.Faults.{FirstFault}
+use Rattle.expansion_tree.proofs.Faulting.{memory_alone, constant_result, negation_fault, left_fault, right_fault}
 use Rattle.expansion_tree.proofs.fit.+stand.Goals as goal
+
+pub stand-returns-in-Leaf-clause-ok : goal.stand-returns-in-Leaf-clause-ok
+stand-returns-in-Leaf-clause-ok t c = rw c.in-Leaf.is c.stand_leaf.ensures.ok
+
+pub stand-returns-in-Leaf-clause-fault : goal.stand-returns-in-Leaf-clause-fault
+stand-returns-in-Leaf-clause-fault t c =
+    memory_alone (λ e. FirstFault c.args.found.now.taken c.args.positive (plain_term c.args.formula) (plain_tree c.args.tree.now) c.args.node e) c.stand_leaf.result c.stand_leaf.ensures.err
+
+pub stand-returns-in-Const-clause-ok : goal.stand-returns-in-Const-clause-ok
+stand-returns-in-Const-clause-ok t c =
+    rw c.in-Const.is (constant_result c.args.positive (plain_term c.args.formula) c.args.node (findings_of c.args.found.now) c.stand_constant.result c.stand_constant.ensures.ok)
 
 pub stand-returns-in-Const-clause-fault : goal.stand-returns-in-Const-clause-fault
 stand-returns-in-Const-clause-fault t c =
@@ -78,3 +91,57 @@ stand_selection-returns-clause-fault t c =
     let below = rw (c.in_ok-below.ensures.ok, c.in_ok-instance.ensures.instance) at c.stand.ensures.fault in
     selection_fault c.args.name.now (plain_tree c.args.t.now) c.args.positive (plain_term c.args.formula) (plain_term c.in-Some.body) (plain_type c.in-Some.ty) c.args.node
     (findings_of c.args.found.now) (findings_of c.select.new.self) c.stand.result c.in-Some.ensures.some (c.in_ok-select.ensures.new c.if-not-branch.false) below
+
+pub stand-returns-in-Not-clause-ok : goal.stand-returns-in-Not-clause-ok
+stand-returns-in-Not-clause-ok t c = rw c.in-Not.is (rw c.deref.ensures at c.stand_negation.ensures.ok)
+
+pub stand-returns-in-Not-clause-fault : goal.stand-returns-in-Not-clause-fault
+stand-returns-in-Not-clause-fault t c = rw c.in-Not.is (rw c.deref.ensures at c.stand_negation.ensures.fault)
+
+pub stand-returns-in-Bin-clause-ok : goal.stand-returns-in-Bin-clause-ok
+stand-returns-in-Bin-clause-ok t c = rw c.in-Bin.is (rw (c.deref-in-Bin.ensures, c.deref-in-Bin-2.ensures) at c.stand_compound.ensures.ok)
+
+pub stand-returns-in-Bin-clause-fault : goal.stand-returns-in-Bin-clause-fault
+stand-returns-in-Bin-clause-fault t c = rw c.in-Bin.is (rw (c.deref-in-Bin.ensures, c.deref-in-Bin-2.ensures) at c.stand_compound.ensures.fault)
+
+pub stand-returns-in-Sel-clause-ok : goal.stand-returns-in-Sel-clause-ok
+stand-returns-in-Sel-clause-ok t c = rw c.in-Sel.is (rw c.deref-in-Sel.ensures at c.stand_selection.ensures.ok)
+
+pub stand-returns-in-Sel-clause-fault : goal.stand-returns-in-Sel-clause-fault
+stand-returns-in-Sel-clause-fault t c = rw c.in-Sel.is (rw c.deref-in-Sel.ensures at c.stand_selection.ensures.fault)
+
+pub stand-returns-in-Exp-clause-ok : goal.stand-returns-in-Exp-clause-ok
+stand-returns-in-Exp-clause-ok t c = rw c.in-Exp.is c.stand_expansion.ensures.ok
+
+pub stand-returns-in-Exp-clause-fault : goal.stand-returns-in-Exp-clause-fault
+stand-returns-in-Exp-clause-fault t c = rw c.in-Exp.is c.stand_expansion.ensures.fault
+
+pub stand_negation-returns-clause-fault : goal.stand_negation-returns-clause-fault
+stand_negation-returns-clause-fault t c =
+    let below = rw c.in_ok-below.ensures.ok at c.stand.ensures.fault in
+    negation_fault (plain_tree c.args.t.now) c.args.positive (plain_term c.args.formula) (plain_term c.in-Some.b) c.args.node c.args.found.now.taken c.stand.result c.in-Some.ensures.some below
+
+pub stand_negation-returns-in_default-clause-fault : goal.stand_negation-returns-in_default-clause-fault
+stand_negation-returns-in_default-clause-fault t c = inl (refl, c.in_default.ensures.none)
+
+pub stand_compound-returns-in_default-clause-fault : goal.stand_compound-returns-in_default-clause-fault
+stand_compound-returns-in_default-clause-fault t c = inl (refl, c.in_default.ensures.none)
+
+pub stand_selection-returns-in_default-clause-fault : goal.stand_selection-returns-in_default-clause-fault
+stand_selection-returns-in_default-clause-fault t c = inl (refl, c.in_default.ensures.none)
+
+pub stand_compound-returns-in_err-left-clause-fault : goal.stand_compound-returns-in_err-left-clause-fault
+stand_compound-returns-in_err-left-clause-fault t c =
+    let fault = rw (c.in_ok-below.ensures.ok, c.left_polarity-polarity.ensures) at c.in_err-left.ensures.fault in
+    let p = err_from_is_err_and c.from_residual-in_err-left.result c.from_residual-in_err-left.ensures.1 in
+    rw (p.1, p.2)
+    (left_fault c.args.op (plain_tree c.args.t.now) (plain_tree c.args.u.now) c.args.positive (plain_term c.args.formula) (plain_term c.in-Some.b) (plain_term c.in-Some.c)
+    c.args.node c.args.found.now.taken c.in_err-left.field-0.0 c.in-Some.ensures.some fault)
+
+pub stand_compound-returns-in_err-right-clause-fault : goal.stand_compound-returns-in_err-right-clause-fault
+stand_compound-returns-in_err-right-clause-fault t c =
+    let left = rw (c.in_ok-below.ensures.ok, c.left_polarity-polarity.ensures) at c.in_ok-left.ensures.ok in
+    let p = err_from_is_err_and c.from_residual-in_err-right.result c.from_residual-in_err-right.ensures.1 in
+    rw (p.1, p.2)
+    (right_fault c.args.op (plain_tree c.args.t.now) (plain_tree c.args.u.now) c.args.positive (plain_term c.args.formula) (plain_term c.in-Some.b) (plain_term c.in-Some.c)
+    c.args.node c.in_ok-left.middle (findings_of c.args.found.now) (findings_of c.stand.new.found) c.in_ok-left.left c.in_err-right.field-0.0 c.in-Some.ensures.some left c.in_err-right.ensures.fault)
