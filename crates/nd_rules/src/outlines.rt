@@ -1,6 +1,8 @@
 //! Outlines: lists of lines with rising numbers.
 
-ghost use Rattle.std.specs.Prelude.{◌≡◌, ◌≢◌, ◌<◌, ℕ, [], Err, IfErr, IfOk, IfSome, IsSome, None, OnErr, OnOk, Some, length, map, slice_get};
+ghost use Rattle.std.specs.Prelude.{◌≡◌, ◌≢◌, ◌<◌, ◌≤◌, ℕ, [], Err, IfErr, IfOk, IfSome, IsSome, None, OnErr, OnOk, Some, length, map, slice_get};
+ghost use Rattle.std.specs.List.{insert};
+ghost use Rattle.std.specs.List.Sorted.{IsStrictlyIncreasing};
 ghost use Rattle.std.specs.Option.{option_map};
 ghost use Rattle.hol_terms.specs.Terms.{plain_term};
 ghost use Rattle.hol_terms.specs.Typing.{IsFormula};
@@ -19,6 +21,34 @@ fn search(lines: &[Line], number: u64) -> Result<usize, usize>
     ensures absent { IfErr result (λ i. IsGapFor (numbers_of (map plain_line lines.now)) number i) }
 {
     lines.binary_search_by_key(&number, |line| line.number)
+}
+
+/// The number of a line, whose hypotheses rise.
+fn number_of(line: &Line) -> u64
+    ensures number { result ≡ line.now.number }
+    ensures rising { IsStrictlyIncreasing (plain_line line.now).hypotheses }
+{
+    let _rising = line.hyps.as_slice();
+    line.number
+}
+
+/// Why a line isn't put in whose number another line has.
+fn refused(line: Line) -> InsertFault
+    ensures { result ≡ InsertFault.Present line.number }
+{
+    let number = line.number;
+    drop(line);
+    InsertFault::Present(number)
+}
+
+/// Puts a line at a place.
+fn put(lines: &mut Vec<Line>, i: usize, line: Line) -> Result<(), InsertFault>
+    requires { i ≤ length lines.old.items }
+    ensures items { OnOk result (lines.new.items ≡ insert lines.old.items i line) }
+    ensures err { OnErr result (lines.new.items ≡ lines.old.items) }
+    ensures memory { IfErr result (λ e. e ≡ InsertFault.Memory) }
+{
+    Ok(lines.insert(i, line)?)
 }
 
 /// The lines of a deduction, finished or not, their numbers strictly rising. Contracts see the list of its lines.
@@ -99,10 +129,10 @@ impl Outline {
         ensures present { IfErr result (λ e. e ≢ InsertFault.Memory → (e ≡ InsertFault.Present line.number) × IsSome (line_of self.old line.number)) }
         ensures free { result ≡ Err InsertFault.Memory → line_of self.old line.number ≡ None }
     {
-        let _rising = line.hyps.as_slice();
-        match search(&self.lines, line.number) {
-            Ok(_) => Err(InsertFault::Present(line.number)),
-            Err(i) => Ok(self.lines.insert(i, line)?),
+        let number = number_of(&line);
+        match search(&self.lines, number) {
+            Ok(_) => return Err(refused(line)),
+            Err(i) => Ok(put(&mut self.lines, i, line)?),
         }
     }
 

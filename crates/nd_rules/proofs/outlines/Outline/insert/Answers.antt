@@ -1,4 +1,4 @@
-use Rattle.std.proofs.Common.{sym, subst, map, refl}
+use Rattle.std.proofs.Common.{sym, subst, map}
 use Rattle.nd_rules.specs.Lines.{plain_line}
 use Rattle.nd_rules.specs.Outlines.{IsOutline}
 use Rattle.nd_rules.proofs.Places.{absent_line}
@@ -7,29 +7,29 @@ use Rattle.nd_rules.proofs.outlines.Outline.insert.Goals as goal
 
 pub returns-in-Ok-clause-present : goal.returns-in-Ok-clause-present
 returns-in-Ok-clause-present c =
-    let here = rw c.deref.ensures.value at c.in-Ok.ensures.found in
-    λ _. (refl, rw (← c.self.view_is) (is_there c.self.inside.lines.items c.args.line.number _ c.self.invariant here))
+    let here = rw (c.deref.ensures.value, c.number_of-number.ensures.number) at c.in-Ok.ensures.found in
+    λ _. (c.refused.ensures, rw (← c.self.view_is) (is_there c.self.inside.lines.items c.args.line.number _ c.self.invariant here))
 
-pub returns-in_err-insert-in-Err-clause-free : goal.returns-in_err-insert-in-Err-clause-free
-returns-in_err-insert-in-Err-clause-free c =
-    let here = rw c.deref.ensures.value at c.in-Err.ensures.absent in
+pub returns-in_err-put-in-Err-clause-free : goal.returns-in_err-put-in-Err-clause-free
+returns-in_err-put-in-Err-clause-free c =
+    let here = rw (c.deref.ensures.value, c.number_of-number.ensures.number) at c.in-Err.ensures.absent in
     λ _. rw (← c.self.view_is) (absent_line (map plain_line c.self.inside.lines.items) c.args.line.number _ here)
 
 pub invariant_of-self-in-Err : goal.invariant_of-self-in-Err
 invariant_of-self-in-Err c =
-    let here = rw c.deref.ensures.value at c.in-Err.ensures.absent in
+    let here = rw (c.deref.ensures.value, c.number_of-number.ensures.number) at c.in-Err.ensures.absent in
     let lines = c.self.inside.lines.items in
-    let same = put_line lines c.insert.new.self.items c.args.line _ here c.in_ok-insert-in-Err.ensures.items in
+    let same = put_line lines c.put.new.lines.items c.args.line _ here c.in_ok-put-in-Err.ensures.items in
     let none = absent_line (map plain_line lines) c.args.line.number _ here in
-    subst IsOutline (sym same) (outline_with (map plain_line lines) (plain_line c.args.line) c.self.invariant (c.requires.formula, c.as_slice-rising.ensures.rising, c.requires.term) none)
+    subst IsOutline (sym same) (outline_with (map plain_line lines) (plain_line c.args.line) c.self.invariant (c.requires.formula, c.number_of-number.ensures.rising, c.requires.term) none)
 
-pub returns-in_ok-insert-in-Err-clause-ok : goal.returns-in_ok-insert-in-Err-clause-ok
-returns-in_ok-insert-in-Err-clause-ok c =
-    let here = rw c.deref.ensures.value at c.in-Err.ensures.absent in
+pub returns-clause-ok : goal.returns-clause-ok
+returns-clause-ok c =
+    let here = rw (c.deref.ensures.value, c.number_of-number.ensures.number) at c.in-Err.ensures.absent in
     let lines = c.self.inside.lines.items in
-    rw (← c.self.view_is) (put_line lines c.insert.new.self.items c.args.line _ here c.in_ok-insert-in-Err.ensures.items)
+    rw (← c.self.view_is) (put_line lines c.put.new.lines.items c.args.line _ here c.in_ok-put-in-Err.ensures.items)
 
-pub returns-in_ok-insert-in-Err-clause-absent : goal.returns-in_ok-insert-in-Err-clause-absent
-returns-in_ok-insert-in-Err-clause-absent c =
-    let here = rw c.deref.ensures.value at c.in-Err.ensures.absent in
+pub returns-clause-absent : goal.returns-clause-absent
+returns-clause-absent c =
+    let here = rw (c.deref.ensures.value, c.number_of-number.ensures.number) at c.in-Err.ensures.absent in
     rw (← c.self.view_is) (absent_line (map plain_line c.self.inside.lines.items) c.args.line.number _ here)
