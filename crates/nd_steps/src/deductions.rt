@@ -1,6 +1,6 @@
 //! Deductions: outlines to which each step adds a line that the lines justify.
 
-ghost use Rattle.std.specs.Prelude.{◌≡◌, ◌≢◌, [], IfOk, IfSome, IsSome, None, OnErr, OnOk, Some, length};
+ghost use Rattle.std.specs.Prelude.{◌≡◌, ◌≢◌, ◌+◌, [], IfOk, IfSome, IsSome, None, OnErr, OnOk, Some, length};
 ghost use Rattle.std.specs.Option.{option_map};
 ghost use Rattle.hol_terms.specs.Terms.{plain_term};
 ghost use Rattle.hol_terms.specs.Typing.{IsFormula};
@@ -30,6 +30,44 @@ fn put(outline: &mut Outline, line: Line) -> Result<(), AllocError>
         Ok(()) => Ok(()),
         Err(InsertFault::Memory) => Err(AllocError),
         Err(InsertFault::Present(_)) => unreachable!(),
+    }
+}
+
+/// The number behind this many, and equal hypotheses.
+fn number_behind(alloc: Global, before: u64, hyps: &Hyps) -> Result<(u64, Hyps), AllocError>
+    ensures number { IfOk result (λ r. r.0 ≡ before + 1) }
+    ensures hyps { IfOk result (λ r. r.1 ≡ hyps.now) }
+{
+    let number = raised_index(before, 1)?;
+    let hyps = copied(alloc, hyps)?;
+    Ok((number, hyps))
+}
+
+/// The line behind this many.
+fn line_behind(
+    alloc: Global,
+    before: u64,
+    hyps: &Hyps,
+    formula: Tm,
+    why: Why,
+) -> Result<Line, AllocError>
+    ensures number { IfOk result (λ line. line.number ≡ before + 1) }
+    ensures hyps { IfOk result (λ line. line.hyps ≡ hyps.now) }
+    ensures formula { IfOk result (λ line. plain_term line.formula ≡ plain_term formula) }
+    ensures why { IfOk result (λ line. plain_why line.why ≡ plain_why why) }
+{
+    match number_behind(alloc, before, hyps) {
+        Ok((number, hyps)) => Ok(Line {
+            number,
+            hyps,
+            formula,
+            why,
+        }),
+        Err(error) => {
+            drop(formula);
+            drop(why);
+            Err(error)
+        }
     }
 }
 
@@ -119,13 +157,9 @@ impl Deduction {
         ensures err { OnErr result (self.new ≡ self.old) }
     {
         let _rising = hyps.as_slice();
-        let number = raised_index(self.outline.len(), 1)?;
-        let line = Line {
-            number,
-            hyps: copied(alloc, hyps)?,
-            formula,
-            why,
-        };
+        let before = self.outline.len();
+        let line = line_behind(alloc, before, hyps, formula, why)?;
+        let number = line.number;
         put(&mut self.outline, line)?;
         Ok(number)
     }

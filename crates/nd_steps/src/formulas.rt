@@ -2,7 +2,7 @@
 
 ghost use Rattle.std.specs.Prelude.{◌≡◌, IfOk};
 ghost use Rattle.hol_terms.specs.Indices.{instance_of};
-ghost use Rattle.hol_terms.specs.Terms.{SimpleType, Term, constant, falsehood as falsehood_constant, plain_term};
+ghost use Rattle.hol_terms.specs.Terms.{SimpleType, Term, application, constant, falsehood as falsehood_constant, implication as implication_constant, plain_term};
 ghost use Rattle.nd_rules.specs.Rules.{existence, implies, universal};
 ghost use Rattle.nd_steps.specs.Premises.{not_so};
 
@@ -25,12 +25,19 @@ pub(crate) fn negation(alloc: Global, formula: Tm) -> Result<Tm, AllocError>
     Tm::app(alloc, Tm::Con(Con::Not), formula)
 }
 
+/// IMPLIES applied to a copy of A.
+fn implication_from(alloc: Global, first: &Tm) -> Result<Tm, AllocError>
+    ensures { IfOk result (λ t. plain_term t ≡ application (constant implication_constant) (plain_term first.now)) }
+{
+    let first = copy(alloc, first)?;
+    Tm::app(alloc, Tm::Con(Con::Implies), first)
+}
+
 /// A IMPLIES B, with a copy of A.
 pub(crate) fn implication(alloc: Global, first: &Tm, second: Tm) -> Result<Tm, AllocError>
     ensures { IfOk result (λ t. plain_term t ≡ implies (plain_term first.now) (plain_term second)) }
 {
-    let first = copy(alloc, first)?;
-    let half = Tm::app(alloc, Tm::Con(Con::Implies), first)?;
+    let half = implication_from(alloc, first)?;
     Tm::app(alloc, half, second)
 }
 

@@ -1,7 +1,7 @@
 //! The rules, as steps: each adds the next line, which the lines justify by the rule, under the given hypotheses, and answers its
 //! number. An error comes only where memory is wanting, and then nothing is changed.
 
-ghost use Rattle.std.specs.Prelude.{◌≡◌, ◌∷◌, [], IfOk, OnErr, OnOk};
+ghost use Rattle.std.specs.Prelude.{◌≡◌, ◌+◌, ◌∷◌, [], IfOk, OnErr, OnOk};
 ghost use Rattle.hol_terms.specs.Terms.{Term, plain_term};
 ghost use Rattle.hol_terms.specs.Truth.{Follows};
 ghost use Rattle.hol_terms.specs.Typing.{IsFormula};
@@ -17,6 +17,43 @@ use hol_terms::terms::Tm;
 use nd_rules::lines::Why;
 use std::alloc::{AllocError, Global};
 
+/// The number behind this many, alone.
+fn number_alone(alloc: Global, before: u64) -> Result<Hyps, AllocError>
+    ensures { IfOk result (λ own. own ≡ (before + 1) ∷ []) }
+{
+    let number = raised_index(before, 1)?;
+    let mut own = Hyps::new(alloc);
+    own.push(number)?;
+    Ok(own)
+}
+
+/// One source.
+fn one_source(alloc: Global, source: u64) -> Result<Numbers, AllocError>
+    ensures { IfOk result (λ sources. sources ≡ source ∷ []) }
+{
+    let mut sources = Numbers::new(alloc);
+    sources.push(source)?;
+    Ok(sources)
+}
+
+/// Two sources.
+fn two_sources(alloc: Global, first: u64, second: u64) -> Result<Numbers, AllocError>
+    ensures { IfOk result (λ sources. sources ≡ first ∷ second ∷ []) }
+{
+    let mut sources = one_source(alloc, first)?;
+    sources.push(second)?;
+    Ok(sources)
+}
+
+/// Three sources.
+fn three_sources(alloc: Global, first: u64, second: u64, third: u64) -> Result<Numbers, AllocError>
+    ensures { IfOk result (λ sources. sources ≡ first ∷ second ∷ third ∷ []) }
+{
+    let mut sources = two_sources(alloc, first, second)?;
+    sources.push(third)?;
+    Ok(sources)
+}
+
 impl Deduction {
     /// P: a hypothesis, which rests on itself.
     pub fn assume(&mut self, alloc: Global, formula: Tm) -> Result<u64, AllocError>
@@ -27,9 +64,7 @@ impl Deduction {
         ensures deduction { OnOk result (IsDeduction self.new) }
         ensures err { OnErr result (self.new ≡ self.old) }
     {
-        let number = raised_index(self.len(), 1)?;
-        let mut own = Hyps::new(alloc);
-        own.push(number)?;
+        let own = number_alone(alloc, self.len())?;
         self.add(alloc, &own, formula, Why::Hyp)
     }
 
@@ -68,8 +103,7 @@ impl Deduction {
         ensures deduction { OnOk result (IsDeduction self.new) }
         ensures err { OnErr result (self.new ≡ self.old) }
     {
-        let mut sources = Numbers::new(alloc);
-        sources.push(source)?;
+        let sources = one_source(alloc, source)?;
         self.follow(alloc, hyps, sources, formula)
     }
 
@@ -90,9 +124,7 @@ impl Deduction {
         ensures deduction { OnOk result (IsDeduction self.new) }
         ensures err { OnErr result (self.new ≡ self.old) }
     {
-        let mut sources = Numbers::new(alloc);
-        sources.push(first)?;
-        sources.push(second)?;
+        let sources = two_sources(alloc, first, second)?;
         self.follow(alloc, hyps, sources, formula)
     }
 
@@ -114,10 +146,7 @@ impl Deduction {
         ensures deduction { OnOk result (IsDeduction self.new) }
         ensures err { OnErr result (self.new ≡ self.old) }
     {
-        let mut sources = Numbers::new(alloc);
-        sources.push(first)?;
-        sources.push(second)?;
-        sources.push(third)?;
+        let sources = three_sources(alloc, first, second, third)?;
         self.follow(alloc, hyps, sources, formula)
     }
 
