@@ -106,7 +106,8 @@ impl Db {
         self.loose[id.place() as usize]
     }
 
-    /// The number of the abstraction over a variable of the type of the abstraction `like`, with another body; `like` where that is none.
+    /// The number of the abstraction over a variable of the type of the abstraction `like`, with another body. It is `like` itself
+    /// where that is no abstraction.
     pub fn abstraction_like(&mut self, like: TermId, body: TermId) -> Result<TermId, AllocError>
         requires like { IsLive self.old like.place }
         requires body { IsLive self.old body.place }
