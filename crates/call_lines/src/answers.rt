@@ -50,7 +50,7 @@ pub fn name_text(alloc: Global, name: &Name) -> Result<String, TextFault>
     string_of(alloc, &text)
 }
 
-/// Adds the term behind a space; after an error nothing is changed.
+/// Adds the term after a space; after an error nothing is changed.
 pub fn push_term(alloc: Global, answer: &mut String, t: &Tm) -> Result<(), TextFault>
     ensures text { IfOk result (λ _. string_bytes answer.new ≡ string_bytes answer.old ++ 32 ∷ written (term_form (plain_term t.now))) }
     ensures fault { IfErr result (λ e. e ≢ TextFault.Memory → IsUtf8 (written (term_form (plain_term t.now))) → ⊥) }

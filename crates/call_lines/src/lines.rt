@@ -4,7 +4,7 @@ ghost use Rattle.std.specs.Prelude.{◌≡◌, ◌==◌, ◌↔◌, ◌⊎◌, I
 ghost use Rattle.std.specs.List.{after_first, before_first};
 ghost use Rattle.call_lines.specs.Lines.{HasNoSpace, IsHeading};
 
-/// The name of the call on a line, in front of the first space, and its arguments behind it. There is no call exactly
+/// The name of the call on a line, in front of the first space, and its arguments after it. There is no call exactly
 /// on a line that begins with `#`, which is a heading, and on one without a space.
 pub fn call_in(line: &str) -> Option<(&str, &str)>
     ensures name { IfSome result (λ call. call.0.now ≡ before_first (λ b. b == 32) line.now) }

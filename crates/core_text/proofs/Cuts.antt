@@ -1,4 +1,4 @@
--- The front of a text is no text.
+-- The prefix of a text is no text.
 use Rattle.std.proofs.Common.{◌≡◌, ℕ, ◌+◌, ◌==◌, Bool, true, false, cond, List, [], ◌∷◌, ◌++◌, length, map, decimal, refl, sym, ◌∙◌, ap, subst, append-nil, append_assoc, arith}
 use Rattle.core_text.specs.Tokens.{Token, opening, closing, word, Piece, piece, token, is_white, onto, pieces}
 use Rattle.core_text.specs.Forms.{Form, word_form, number_form, list_form, IsTextOf, IsWellSpelled, spelling, spelling_of_all}

@@ -49,7 +49,7 @@ mutual
   utf8_others (more_forms f fs) h =
       IsUtf8-append (32 ∷ written f) (written_others fs) (IsUtf8-append (32 ∷ []) (written f) (ascii_utf8 32 (omega arith)) (utf8_written f h.0)) (utf8_others fs h.1)
 
--- LF behind a form is no token
+-- LF after a form is no token
 pub tokens-line : (f : Form) → IsWellSpelled f → tokens (written f ++ 10 ∷ []) ≡ spelling f
 tokens-line f h = let t = form_spells f h (10 ∷ []) 0 refl in t.1 ∙ append-nil (spelling f)
 

@@ -106,7 +106,7 @@ closed (closing ∷ ts) d h =
     let parts = and_parts _ _ h in
     unopened d ts (open_some d parts.0) (closed ts (d - 1) parts.1)
 
--- nothing is behind a whole form
+-- nothing is after a whole form
 ended : (ts : List Token) → Closed 0 ts → ts ≡ []
 ended ts c = go c.open_lists c.many c.spells
   where

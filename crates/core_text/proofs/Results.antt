@@ -36,7 +36,7 @@ module _ {X A : Type 0} (view : X → A) (r : Result X TextFault) (read : Result
       go (Ok x) h = tt
       go (Err e) h = λ other a p. refused e read a other h (all a p)
 
--- a fault other than want of memory was found
+-- a fault other than running out of memory was found
 pub fault_was_found : (e : TextFault) (found : Option TextFault) → IsFaultUnlessMemory e found → e ≢ Memory → found ≡ None → ⊥
 fault_was_found Memory found h other none = other refl
 fault_was_found NotUtf8 found h other none = cc

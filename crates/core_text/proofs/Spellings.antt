@@ -20,7 +20,7 @@ not_closing (number_form n) x y h = cc
 not_closing (list_form fs) x y h = cc
 
 mutual
-  -- Two forms that spell the fronts of one list of tokens are the same. So no form is a proper front of another.
+  -- Two forms that spell prefixes of one list of tokens are the same. So no form is a proper prefix of another.
   pub same_form : (f g : Form) (x y : List Token) → IsWellSpelled f → IsWellSpelled g → spelling f ++ x ≡ spelling g ++ y → (f ≡ g) × (x ≡ y)
   same_form (word_form v) (word_form w) x y p q h = let t = word_same v w x y h in (ap word_form t.0, t.1)
   same_form (word_form v) (number_form n) x y p q h = absurd (no_number v n p q (word_same v (decimal n) x y h).0)

@@ -6,13 +6,13 @@ use Rattle.core_text.specs.Words.{is_good}
 use Rattle.core_text.specs.declared.faults.TextFault.{TextFault}
 use Rattle.core_text.specs.declared.faults.TextFault.TheVariants.{Memory, NotUtf8, BadToken, Unbalanced, TooDeep, Trailing, BadForm, IllTyped, LooseIndex}
 
--- what is wrong with a piece behind others (started), where this many brackets are open
+-- what is wrong with a piece after others (started), where this many brackets are open
 abbrev pub cause : ℕ → Bool → Piece → Option TextFault
 cause depth started (piece (word w) k) = if is_good w then (if started && depth == 0 then Some (Trailing k) else None) else Some (BadToken k)
 cause depth started (piece opening k) = if started && depth == 0 then Some (Trailing k) else (if depth == 5000 then Some (TooDeep k) else None)
 cause depth started (piece closing k) = if depth == 0 then Some (Unbalanced k) else None
 
--- how many brackets are open behind a piece
+-- how many brackets are open after a piece
 abbrev pub depth_after : ℕ → Piece → ℕ
 depth_after depth (piece (word w) k) = depth
 depth_after depth (piece opening k) = depth + 1
@@ -31,7 +31,7 @@ first_fault depth started (p ∷ ps) last = or_else (cause depth started p) (fir
 abbrev pub form_fault : List ℕ → Option TextFault
 form_fault bytes = if is_utf8 bytes then first_fault 0 false (pieces 0 bytes) (length bytes) else Some NotUtf8
 
--- a fault other than want of memory is the one that was found
+-- a fault other than running out of memory is the one that was found
 abbrev pub IsFaultUnlessMemory : TextFault → Option TextFault → Type 0
 IsFaultUnlessMemory Memory found = Unit {0}
 IsFaultUnlessMemory NotUtf8 found = found ≡ Some NotUtf8

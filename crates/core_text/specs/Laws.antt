@@ -27,11 +27,11 @@ HasOneTerm = (f : Form) (s t : Term) → IsFormOfTerm f s → IsFormOfTerm f t �
 
 -- what was written is read again
 
--- what is written for a form, within the limits of reading, is a text of it, and so it is with LF behind it
+-- what is written for a form, within the limits of reading, is a text of it, and so it is with LF after it
 abbrev pub WrittenIsText : Type 0
 WrittenIsText = (f : Form) → IsWellSpelled f → nesting f ≤ 5000 → IsTextOf (written f) f × IsTextOf (written f ++ 10 ∷ []) f
 
--- what is written for a form is nested as deep as the form, and so it is with LF behind it
+-- what is written for a form is nested as deep as the form, and so it is with LF after it
 abbrev pub WrittenHasDepth : Type 0
 WrittenHasDepth = (f : Form) → IsWellSpelled f → (depth_of (written f) ≡ nesting f) × (depth_of (written f ++ 10 ∷ []) ≡ nesting f)
 
@@ -51,9 +51,9 @@ WrittenTermIsRead =
 abbrev pub TypedIsWellSpelled : Type 0
 TypedIsWellSpelled = (t : Term) (s : SimpleType) → HasNames t → Typed [] t s → nesting (term_form t) ≤ 5000 → IsWellSpelled (term_form t)
 
--- the front of a text is no text
+-- a prefix of a text is no text
 
--- a form is never a proper front of another form
+-- a form is never a proper prefix of another form
 abbrev pub HasNoProperFront : Type 0
 HasNoProperFront = (f g : Form) (rest : List Token) → IsWellSpelled f → IsWellSpelled g → spelling f ++ rest ≡ spelling g → (f ≡ g) × (rest ≡ [])
 

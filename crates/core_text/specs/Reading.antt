@@ -66,7 +66,7 @@ term_at (list_at (more_at (word_at w j) (more_at x (more_at y none_at))) k) =
     else Err k))
 term_at (list_at fs k) = Err k
 
--- the fault is want of memory, or BadForm at the place that reading answers
+-- the fault is running out of memory, or BadForm at the place that reading answers
 abbrev pub Fails : {A : Type 0} → TextFault → Result A ℕ → Type 0
 Fails Memory read = Unit {0}
 Fails NotUtf8 read = ⊥

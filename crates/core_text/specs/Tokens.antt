@@ -21,7 +21,7 @@ is_white b = b == 32 || b == 9 || b == 10 || b == 13
 abbrev pub is_in_word : ℕ → Bool
 is_in_word b = not (is_white b) && not (b == 40 || b == 41)
 
--- a byte of a word, put before the pieces of what follows it: it goes onto a word that begins right behind it
+-- a byte of a word, put before the pieces of what follows it: it goes onto a word that begins right after it
 abbrev pub onto : ℕ → ℕ → List Piece → List Piece
 onto b place [] = piece (word (b ∷ [])) place ∷ []
 onto b place (piece opening k ∷ ps) = piece (word (b ∷ [])) place ∷ piece opening k ∷ ps

@@ -1,4 +1,4 @@
--- What is written for a form: one space between two members of a list, none behind an opening bracket or before a closing one.
+-- What is written for a form: one space between two members of a list, none after an opening bracket or before a closing one.
 use Rattle.std.specs.Prelude.{ℕ, List, [], ◌∷◌, ◌++◌, decimal}
 use Rattle.core_text.specs.Forms.{Form, word_form, number_form, list_form, Forms, no_forms, more_forms}
 
@@ -12,7 +12,7 @@ abbrev mutual
   written_members no_forms = []
   written_members (more_forms f fs) = written f ++ written_others fs
 
-  -- each behind a space
+  -- each after a space
   pub written_others : Forms → List ℕ
   written_others no_forms = []
   written_others (more_forms f fs) = 32 ∷ written f ++ written_others fs

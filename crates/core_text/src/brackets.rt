@@ -19,7 +19,7 @@ use std::alloc::{AllocError, Global};
 /// The number of brackets that may be open at once.
 pub const DEEPEST: usize = 5000;
 
-/// A bracket that is open, and the forms behind it so far.
+/// A bracket that is open, and the forms after it so far.
 #[derive(Drop)]
 struct Frame {
     place: u64,
@@ -58,7 +58,7 @@ fn leaf(alloc: Global, bytes: &[u8], place: u64) -> Result<Sexp, TextFault>
     Ok(Sexp::Word(text, place))
 }
 
-/// Puts a whole form behind the innermost open bracket, or hands it out where none is open.
+/// Puts a whole form after the innermost open bracket, or hands it out where none is open.
 fn deliver(frames: &mut Vec<Frame>, item: Sexp) -> Result<Option<Sexp>, TextFault>
     ensures whole { IfOk result (λ r. IfSome r (λ s. (frames.old.items ≡ []) × (placed s ≡ placed item))) }
     ensures more { IfOk result (λ r. IfNone r (open_layout frames.new.items ≡ open_layout frames.old.items ++ layout (placed item))) }
@@ -141,7 +141,7 @@ fn take_piece(
     }
 }
 
-/// The fault of a piece behind a whole form.
+/// The fault of a piece after a whole form.
 fn trailing(piece: Piece<'_>) -> TextFault
     ensures fault { IsFaultUnlessMemory result (cause 0 true (plain_piece piece.entry)) }
     ensures found { result ≢ TextFault.Memory }

@@ -2,7 +2,7 @@
 
 use std::alloc::{AllocError, AllocFailed};
 
-/// Why a text is refused, with the place: a byte offset from 0. `Memory` comes where memory is wanting.
+/// Why a text is refused, with the place: a byte offset from 0. `Memory` comes where memory runs out.
 #[derive(Clone, Copy, Debug, PartialEq, Eq)]
 pub enum TextFault {
     /// The bytes aren't UTF-8.
@@ -21,7 +21,7 @@ pub enum TextFault {
     IllTyped(u64),
     /// A bound index with too few abstractions around it.
     LooseIndex(u64),
-    /// Memory is wanting.
+    /// Memory ran out.
     Memory,
 }
 

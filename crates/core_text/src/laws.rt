@@ -21,7 +21,7 @@ pub fn written()
     ensures spelled { TypedIsWellSpelled }
 {}
 
-/// A form is never a proper front of another, and a text that is cut anywhere before its last closing bracket is the text of no form.
+/// A form is never a proper prefix of another, and a text that is cut anywhere before its last closing bracket is the text of no form.
 #[tactic(auto, using(crate::proofs::Cuts::no_front, crate::proofs::Cuts::cut))]
 pub fn fronts()
     ensures front { HasNoProperFront }

@@ -53,7 +53,7 @@ fn word_end(bytes: &[u8], from: usize) -> usize
     at
 }
 
-/// The next bracket or word from here on, and the place behind it.
+/// The next bracket or word from here on, and the place after it.
 pub fn next_piece(bytes: &[u8], from: usize) -> Option<(Piece<'_>, usize)>
     requires { from ≤ length bytes.now }
     ensures none { IfNone result (pieces from (drop from bytes.now) ≡ []) }

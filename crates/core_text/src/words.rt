@@ -36,7 +36,7 @@ fn are_digits(bytes: &[u8]) -> bool
     bytes.iter().all(|byte| byte.is_ascii_digit())
 }
 
-/// Whether a 0 stands first with more behind it.
+/// Whether a 0 stands first with more after it.
 fn has_leading_zero(bytes: &[u8]) -> bool
     ensures { result ≡ has_leading_zero bytes.now }
 {

@@ -108,8 +108,8 @@ fn add_term(alloc: Global, out: &mut Text, t: &Tm) -> Result<(), AllocError>
     }
 }
 
-/// The core form of a type, with one space between members, none behind `(` and none before `)`. It is read again as that type,
-/// within the limits of reading. An error comes only where memory is wanting.
+/// The core form of a type, with one space between members, none after `(` and none before `)`. It is read again as that type,
+/// within the limits of reading. An error comes only where memory runs out.
 #[tactic(auto, using(crate::proofs::Letters::type_letters))]
 pub fn write_type(alloc: Global, ty: &Ty) -> Result<Text, AllocError>
     ensures letters { HasLetters (plain_type ty.now) }
@@ -120,8 +120,8 @@ pub fn write_type(alloc: Global, ty: &Ty) -> Result<Text, AllocError>
     Ok(out)
 }
 
-/// The core form of a term, with one space between members, none behind `(` and none before `)`. Where the term has a type, it is
-/// read again as that term, within the limits of reading. An error comes only where memory is wanting.
+/// The core form of a term, with one space between members, none after `(` and none before `)`. Where the term has a type, it is
+/// read again as that term, within the limits of reading. An error comes only where memory runs out.
 pub fn write_term(alloc: Global, t: &Tm) -> Result<Text, AllocError>
     ensures names { IfOk result (λ _. HasNames (plain_term t.now)) }
     ensures text { IfOk result (λ text. text ≡ written (term_form (plain_term t.now))) }

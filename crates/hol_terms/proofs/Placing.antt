@@ -132,7 +132,7 @@ pub place_held : (v : Variable) (xs : List Variable) (place : Option ℕ) → pl
 place_held v xs None e some = absurd (let no : false ≡ true = some in cc)
 place_held v xs (Some k) e some = stands_contains v xs (stands_at v k xs (place_there v xs (Some k) e))
 
--- a variable is put behind the others where it is new
+-- a variable is put after the others where it is new
 any_stands : (v : Variable) (xs : List Variable) → list_any (same_variable v) xs ≡ true → StandsIn v xs
 any_stands v [] e = absurd (let no : false ≡ true = e in cc)
 any_stands v (x ∷ xs) e = by_test (same_variable v x) refl e (any_stands v xs)

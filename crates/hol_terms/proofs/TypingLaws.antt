@@ -16,7 +16,7 @@ use Rattle.hol_terms.proofs.Bodies.{body_over_of_put, closed_before_put}
 pub typed_once : (types : List SimpleType) (t : Term) (s r : SimpleType) → Typed types t s → Typed types t r → s ≡ r
 typed_once types t s r h k = let same : Some s ≡ Some r = sym (typed_to types t s h) ∙ typed_to types t r k in cc
 
--- the types of the loose indices, with d more of them behind the first c
+-- the types of the loose indices, with d more of them after the first c
 abbrev pub Shifted : ℕ → ℕ → List SimpleType → List SimpleType → Type 0
 Shifted d c types new = (i : ℕ) (t : SimpleType) → slice_get types i ≡ Some t → slice_get new (raise_index d c i) ≡ Some t
 
@@ -49,7 +49,7 @@ typed-raise d c types new (application f a) t w h =
 typed-raise d c types new (abstraction s b) t w h =
     (h.0, typed-raise d (c + 1) (s ∷ types) (s ∷ new) b h.0 (shifted_under d c types new s w) h.1, h.2)
 
--- further types among those of the loose indices: the indices behind them are raised
+-- further types among those of the loose indices: the indices after them are raised
 pub weakening : (front middle back : List SimpleType) (a : Term) (t : SimpleType) → Typed (front ++ back) a t
     → Typed (front ++ (middle ++ back)) (raise (length middle) (length front) a) t
 weakening front middle back a t h =
@@ -113,7 +113,7 @@ in_front [] more i t e = cc
 in_front (s ∷ types) more zero t e = e
 in_front (s ∷ types) more (suc i) t e = in_front types more i t e
 
--- further types behind those of the loose indices change nothing
+-- further types after those of the loose indices change nothing
 pub typed_more : (types more : List SimpleType) (a : Term) (t : SimpleType) → Typed types a t → Typed (types ++ more) a t
 typed_more types more (free n s) t h = h
 typed_more types more (bound i) t h = in_front types more i t h

@@ -30,7 +30,7 @@ impl Model for Name {
     ghost invariant = { λ name. IsName name.characters.items };
 }
 
-/// Why no name was made: the text isn't one, or memory is wanting.
+/// Why no name was made: the text isn't one, or memory runs out.
 #[derive(Clone, Copy, Debug, PartialEq, Eq)]
 pub enum NameFault {
     NotAName,

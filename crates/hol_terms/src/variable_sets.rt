@@ -79,7 +79,7 @@ impl VariableSet {
         self.found(name, ty)
     }
 
-    /// Puts the variable behind the others where it is new, and tells whether it is. An `Err` changes nothing.
+    /// Puts the variable after the others where it is new, and tells whether it is. An `Err` changes nothing.
     #[tactic(auto, using(crate::proofs::Placing::place_held))]
     pub fn insert(&mut self, name: &Name, ty: &Ty) -> Result<bool, AllocError>
         ensures put { IfOk result (λ new. new ≡ true → (Contains self.old (name.now, plain_type ty.now) → ⊥) × (self.new ≡ self.old ++ (name.now, plain_type ty.now) ∷ [])) }
@@ -93,7 +93,7 @@ impl VariableSet {
         Ok(true)
     }
 
-    /// Puts a new variable behind the others. An `Err` changes nothing.
+    /// Puts a new variable after the others. An `Err` changes nothing.
     fn put(&mut self, name: &Name, ty: &Ty) -> Result<(), AllocError>
         requires { Contains self.old (name.now, plain_type ty.now) → ⊥ }
         ensures ok { OnOk result (self.new ≡ self.old ++ (name.now, plain_type ty.now) ∷ []) }

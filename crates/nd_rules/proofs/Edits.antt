@@ -97,7 +97,7 @@ outline_with xs l h p none = record {
   formed = All-from_recursion IsWellFormed (with_line xs l) (formed_with xs l (recursion_from_All IsWellFormed xs h.formed) p);
 }
 
--- a list of lines changed or cut at the place of a number: the numbers before it are other ones, and so are those behind it
+-- a list of lines changed or cut at the place of a number: the numbers before it are other ones, and so are those after it
 
 test_same : (m n : ℕ) → m ≡ n → (m == n) ≡ true
 test_same m n e = eq-eqb m n e

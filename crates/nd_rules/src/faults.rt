@@ -7,7 +7,7 @@ use std::alloc::{AllocError, AllocFailed};
 /// Why a line isn't justified: the first of these, in this order, that holds.
 #[derive(Drop)]
 pub enum RuleFault {
-    /// Memory is wanting.
+    /// Memory ran out.
     Memory,
     /// A line of this number is cited, or is a hypothesis, and isn't there. The cited numbers come first.
     NoLine(u64),
@@ -53,7 +53,7 @@ impl<T: Drop> From<AllocFailed<T>> for RuleFault {
 /// Why a line isn't put in.
 #[derive(Clone, Copy, Debug, PartialEq, Eq)]
 pub enum InsertFault {
-    /// Memory is wanting.
+    /// Memory ran out.
     Memory,
     /// A line has this number.
     Present(u64),

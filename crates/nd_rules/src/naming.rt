@@ -23,7 +23,7 @@ pub fn line_at<'a>(outline: &'a Outline, line: &'a Line, number: u64) -> Option<
     outline.find(number)
 }
 
-/// The numbers, with these behind them.
+/// The numbers, with these after them.
 pub fn with_more(numbers: Numbers, items: &[u64]) -> Result<Numbers, AllocError>
     ensures { IfOk result (λ more. more ≡ numbers ++ items.now) }
 {

@@ -35,7 +35,7 @@ fn append_numbered(
 
 impl RuleFault {
     /// Appends the words by which the refusal is told: `NOLINE k`, `NOTEARLIER k`, `SHAPE`, `HYPS`, `VARIABLE k`, `NOTFOLLOWS`,
-    /// `NOTCONVERTIBLE` or `WRONGTYPE`, and nothing for want of memory. An error comes only where memory is wanting, and then nothing is
+    /// `NOTCONVERTIBLE` or `WRONGTYPE`, and nothing when memory runs out. An error comes only where memory runs out, and then nothing is
     /// changed.
     pub fn append_words(&self, alloc: Global, out: &mut Text) -> Result<(), AllocError>
         ensures ok { OnOk result (out.new ≡ out.old ++ fault_words self.now) }

@@ -52,7 +52,7 @@ impl Db {
         }
     }
 
-    /// The node's number; a node that isn't there yet goes last. An `Err` is want of memory, and the store is then as it was.
+    /// The node's number; a node that isn't there yet goes last. An `Err` is running out of memory, and the store is then as it was.
     pub fn put(&mut self, node: Node) -> Result<TermId, AllocError>
         requires { PointsBelow (length self.old) (plain_node node) }
         ensures nodes { OnOk result (self.new ≡ with_node self.old (plain_node node)) }
@@ -171,8 +171,8 @@ impl Db {
         self.put(Node::Lam(ty, body))
     }
 
-    /// The number of a term, whose nodes are put in where they aren't there. An `Err` is want of memory; the old nodes then stay, and
-    /// some may stand behind them.
+    /// The number of a term, whose nodes are put in where they aren't there. An `Err` is running out of memory; the old nodes then stay, and
+    /// some may stand after them.
     pub fn load(&mut self, t: &Tm) -> Result<TermId, AllocError>
         ensures kept { Grows self.old self.new }
         ensures nodes { IfOk result (λ id. (self.new, id.place) ≡ put_term self.old (plain_term t.now)) }

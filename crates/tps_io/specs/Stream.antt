@@ -12,7 +12,7 @@ TakesAll None new bytes = ⊤
 TakesAll (Some xs) None bytes = ⊥
 TakesAll (Some xs) (Some ys) bytes = (bytes ≡ xs) × (ys ≡ [])
 
--- a front of the bytes that were left was taken, and the rest is left
+-- a prefix of the bytes that were left was taken, and the rest is left
 abbrev pub TakesFront : Option (List ℕ) → Option (List ℕ) → Type 0
 TakesFront old new = (front : List ℕ) × Consumes old new front
 
@@ -21,6 +21,6 @@ abbrev pub HeldMore : Option (List ℕ) → ℕ → Type 0
 HeldMore None max = ⊤
 HeldMore (Some xs) max = max < length xs
 
--- a front of the bytes was appended, and not all of them
+-- a prefix of the bytes was appended, and not all of them
 abbrev pub AppendsFront : Option (List ℕ) → Option (List ℕ) → List ℕ → Type 0
 AppendsFront old new bytes = (front : List ℕ) × (rest : List ℕ) × (bytes ≡ front ++ rest) × Appends old new front × (0 < length rest)

@@ -19,7 +19,7 @@ pub trait Sink {
     /// How many calls failed so far. The count never falls, and may stop at the last value of a `u64`.
     ghost faults: { Self → ℕ };
 
-    /// Takes a front of the piece, and answers how many bytes: at least one, where the piece isn't
+    /// Takes a prefix of the piece, and answers how many bytes: at least one, where the piece isn't
     /// empty. A call that fails takes none, and the count rises; it stays as it was where the call
     /// succeeds.
     fn write(&mut self, piece: &[u8]) -> Result<usize, Failed>
@@ -30,7 +30,7 @@ pub trait Sink {
         ensures cause { HasCause (faults self.old) (faults self.new) result };
 }
 
-/// Writes all the bytes. Where a call of the sink failed, some front of them was written, and not all. It takes no
+/// Writes all the bytes. Where a call of the sink failed, some prefix of them was written, and not all. It takes no
 /// memory.
 pub fn write_all<K: Sink>(sink: &mut K, bytes: &[u8]) -> Result<(), Failed>
     ensures ok { OnOk result (Appends (K.written sink.old) (K.written sink.new) bytes.now) }

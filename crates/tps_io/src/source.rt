@@ -59,7 +59,7 @@ const BLOCK: usize = 8192;
 
 /// All bytes of a source up to its end. `Fault` comes exactly where a call of the source failed, and
 /// `TooLong` exactly where none did and the source has more than `max` bytes; `Memory` comes where
-/// memory ran out. After an error the source has lost some front of its bytes.
+/// memory ran out. After an error the source has lost some prefix of its bytes.
 pub fn read_all<S: Source>(alloc: Global, source: &mut S, max: u64) -> Result<Vec<u8>, ReadError>
     ensures all { IfOk result (λ v. TakesAll (S.left source.old) (S.left source.new) v.items) }
     ensures within { IfOk result (λ v. length v.items ≤ max) }

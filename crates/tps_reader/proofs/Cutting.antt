@@ -136,7 +136,7 @@ bytes_upto cs i =
     let whole = ap (λ l. length (encode_utf8_all l)) (sym (take-append-drop i cs)) ∙ ap length (encodes-append (take i cs) (drop i cs)) ∙ length-append (encode_utf8_all (take i cs)) (encode_utf8_all (drop i cs)) in
     omega (arith, whole)
 
--- a token behind others
+-- a token after others
 pub begins_at : (cs : List ℕ) (at start end place long : ℕ) (s : Sign) → at ≤ start → start ≤ end → end ≤ length cs → list_all is_white (take (start - at) (drop at cs)) ≡ true → Spells (take (end - start) (drop start cs)) (drop end cs) s
     → long ≡ length (encode_utf8_all (take (end - start) (drop start cs))) → Begins place (drop at cs) (token s (place + (start - at)) long) (drop end cs)
 begins_at cs at start end place long s low middle high blank spelled n = record {
@@ -216,7 +216,7 @@ bad_cuts place cs (t ∷ ts) (u ∷ us) l m x y white after bad e blank dark non
 pub bad_no_tokens : (cs : List ℕ) (place : ℕ) (ts : List Token) → HasBadCharacter cs place → HasTokens cs ts → ⊥
 bad_no_tokens cs place ts g h = bad_cuts 0 cs g.before ts g.last h.0 g.others h.1 g.white g.after g.bad g.parts g.blank g.no_white g.none g.cut h.2 h.3
 
--- a bad character behind tokens
+-- a bad character after tokens
 pub bad_at : (cs : List ℕ) (ts : List Token) (place at start : ℕ) → Cuts 0 cs ts place (drop at cs) → at ≤ start → start < length cs → list_all is_white (take (start - at) (drop at cs)) ≡ true → is_white (get_or cs start 0) ≡ false
     → BeginsNone (drop start cs) → HasBadCharacter cs (place + (start - at))
 bad_at cs ts place at start cut low inside blank dark none =
@@ -243,7 +243,7 @@ pub cut_more : (cs : List ℕ) (ts : List Token) (place at start end long : ℕ)
 cut_more cs ts place at start end long s cut low middle high blank spelled n =
     cuts_push 0 cs ts place (drop at cs) (token s (place + (start - at)) long) (drop end cs) cut (begins_at cs at start end place long s low middle high blank spelled n)
 
--- the bytes up to a token, its own and those behind it
+-- the bytes up to a token, its own and those after it
 pub bytes_cut : (cs : List ℕ) (at start end place total : ℕ) → place + length (encode_utf8_all (drop at cs)) ≡ total → at ≤ start → start ≤ end → end ≤ length cs → list_all is_white (take (start - at) (drop at cs)) ≡ true
     → place + (start - at) + length (encode_utf8_all (take (end - start) (drop start cs))) + length (encode_utf8_all (drop end cs)) ≡ total
 bytes_cut cs at start end place total h low middle high blank =

@@ -24,7 +24,7 @@ types_read (type_group (spot p l) inner (spot q m) rest) part ty fs target aroun
     ∙ ap (run (token close_round q m ∷ spelled_type rest)) (types_read inner None h.0 fs target (part ∷ around) h.1)
     ∙ types_read rest (Some (joined part h.0)) ty fs target around h.2
 
--- up to which rank a connective behind the phrase takes all of it
+-- up to which rank a connective after the phrase takes all of it
 abbrev side_limit : Infix → ℕ
 side_limit joint.Equiv = 1
 side_limit joint.Implies = 1
@@ -138,7 +138,7 @@ same_limit : (b : Bool) (x y : ℕ) → (b ≡ true → x ≤ y) → cond b x 0 
 same_limit true x y h = h refl
 same_limit false x y h = omega arith
 
--- The state behind a phrase: what was read last is an operand, and all frames above the first ones settle to the whole.
+-- The state after a phrase: what was read last is an operand, and all frames above the first ones settle to the whole.
 abbrev Holds : List Frame → Mode → RawFormula → Type 0
 Holds gs wanting v = ⊥
 Holds gs (having w) v = (w ≡ v) × (top_rank gs ≤ 6)
@@ -167,7 +167,7 @@ atom_reads fs v value found e h = record {
   settles = λ m low. settled_twice fs v m 6 low ∙ ap (settled m fs) (sym e);
 }
 
--- a token behind a phrase
+-- a token after a phrase
 behind : (gs : List Frame) (mode : Mode) (v : RawFormula) (s : Sign) (place long : ℕ) → Holds gs mode v → is_parenthesis (role_of s) ≡ false
     → step (gs, mode) (token s place long) ≡ have (settled 6 gs v).0 (settled 6 gs v).1 (role_of s) place
 behind gs wanting v s place long h n = absurd h
@@ -205,7 +205,7 @@ starts (connected op l s r) value h =
     let first = starts l h.0 h.2 in
     record { s = first.s; place = first.place; long = first.long; rest = first.rest ++ (standing s (word (infix_word op)) ∷ spelled r); parts = ap (λ x. x ++ (standing s (word (infix_word op)) ∷ spelled r)) first.parts; no_type = first.no_type; atom = λ high fs v. absurd (omega (arith, high, (rank_bound op).0)) }
 
--- a written type behind a name is read
+-- a written type after a name is read
 named_read : (written : Written) (ty : Option SimpleType) (fs : List Frame) (name : List ℕ) (here : ℕ) → HasType written ty → Reads fs (run (spelled_written written) (Some (fs, naming name here))) 6 (raw_variable name ty here)
 named_read untyped ty fs name here h = record {
   gs = fs;
@@ -221,7 +221,7 @@ named_read (typed (spot p l) text (spot q k)) ty fs name here h =
     atom_reads fs (raw_variable name (Some h.0) here) (raw_variable name ty here) _ (ap (λ o. raw_variable name o here) h.2)
     (run_append (spelled_type text) close (Some (fs, typing (for_variable name here) None [])) ∙ ap (run close) inside)
 
--- and behind a name of a binder
+-- and after a name of a binder
 bound_read : (written : Written) (ty : Option SimpleType) (p : Phrase) (fs : List Frame) (b : Binder) (name : List ℕ) (here : ℕ) → Starts p → HasType written ty
     → run (spelled_written written ++ spelled p) (Some (fs, binding_name b name here)) ≡ run (spelled p) (Some (open_binding b name ty here ∷ fs, wanting))
 bound_read untyped ty p fs b name here first h =

@@ -27,7 +27,7 @@ Own (open_side op left) fs own =
     (l : Phrase) × (s : Spot) × Says l left × (left_rank op ≤ rank l) × (is_closed l ≡ true) × (own ≡ spelled l ++ (standing s (word (infix_word op)) ∷ [])) × (top_rank fs ≤ infix_rank op)
 Own (open_application f) fs own = (q : Phrase) × Says q f × (6 ≤ rank q) × (is_closed q ≡ true) × (own ≡ spelled q) × (top_rank fs ≤ 6)
 
--- the tokens behind which these frames are open
+-- the tokens after which these frames are open
 abbrev pub Opened : List Frame → List Token → Type 0
 Opened [] ts = ts ≡ []
 Opened (f ∷ fs) ts = (front : List Token) × (own : List Token) × Opened fs front × Own f fs own × (ts ≡ front ++ own)
@@ -186,7 +186,7 @@ atom_enough (open_side joint.Implies left) h = absurd (omega (arith, h))
 atom_enough (open_side joint.Equiv left) h = absurd (omega (arith, h))
 atom_enough (open_application f) h = omega arith
 
--- Behind some parts of a type, these tokens and the rest of a text make the text of a type.
+-- After some parts of a type, these tokens and the rest of a text make the text of a type.
 abbrev pub Makes : Option SimpleType → List Token → Type 0
 Makes part ts = (rest : TypeText) (ty : SimpleType) → Types part rest ty → (x : TypeText) × Types None x ty × (spelled_type x ≡ ts ++ spelled_type rest)
 
@@ -211,7 +211,7 @@ makes_group part ty ts inner s t h g rest whole_type k =
           ∙ sym (append_assoc ts (standing s open_round ∷ (inner ++ close)) (spelled_type rest)),
     )
 
--- the tokens behind which these parts of a type are open
+-- the tokens after which these parts of a type are open
 abbrev pub OpenParts : List (Option SimpleType) → List Token → Type 0
 OpenParts [] ts = ts ≡ []
 OpenParts (part ∷ around) ts = (front : List Token) × (own : List Token) × (s : Spot) × OpenParts around front × Makes part own × (ts ≡ front ++ (own ++ (standing s open_round ∷ [])))
@@ -221,14 +221,14 @@ IsQuantifier binder.Forall = Unit {0}
 IsQuantifier binder.Exists = Unit {0}
 IsQuantifier binder.Lambda = ⊥
 
--- the tokens behind which a written type begins
+-- the tokens after which a written type begins
 abbrev pub Aims : Target → List Frame → List Token → Type 0
 Aims (for_variable name place) fs own = (s : Spot) × IsName name × (place ≡ spot_place s) × (own ≡ standing s (word name) ∷ [])
 Aims (for_binding b name place) fs own =
     (s : Spot) × (t : Spot) × IsName name × (place ≡ spot_place s) × (top_rank fs ≤ 5) × (own ≡ standing s (word (binder_word b)) ∷ standing t (word name) ∷ [])
 Aims (for_quantifier b place) fs own = (s : Spot) × (t : Spot) × (place ≡ spot_place s) × (own ≡ standing s open_square ∷ standing t (word (binder_word b)) ∷ []) × IsQuantifier b
 
--- the tokens behind which the state is reached
+-- the tokens after which the state is reached
 abbrev pub Consumed : List Frame → Mode → List Token → Type 0
 Consumed fs wanting ts = Opened fs ts × (top_rank fs ≤ 5)
 Consumed fs (having v) ts = (front : List Token) × (p : Phrase) × Opened fs front × Says p v × (6 ≤ rank p) × (is_closed p ≡ true) × (ts ≡ front ++ spelled p) × (top_rank fs ≤ 6)
@@ -252,7 +252,7 @@ with_atom_sound fs front ts p v o h high c e =
     let x = settles 6 6 atom_enough fs front p v o h (omega (arith, high, top_bound fs)) six in
     (x.front, x.q, x.opened, x.says, x.enough, x.closes (omega arith) c, e ∙ x.tokens, settled_top fs v 6)
 
--- one token behind others
+-- one token after others
 abbrev with_sign : List Token → ℕ → ℕ → Sign → List Token
 with_sign ts place long s = ts ++ (token s place long ∷ [])
 
@@ -619,7 +619,7 @@ run_sound (t ∷ ts) done None h = tt
 run_sound (token s place long ∷ ts) done (Some (fs, mode)) h =
     subst (Sound (run ts (step (fs, mode) (token s place long)))) (append_assoc done (token s place long ∷ []) ts) (run_sound ts (done ++ (token s place long ∷ [])) (step (fs, mode) (token s place long)) (step_sound fs mode s place long done h))
 
--- the state behind the tokens is reached by them
+-- the state after the tokens is reached by them
 pub run_consumed : (ts : List Token) → Sound (run ts (Some begun)) ts
 run_consumed ts = run_sound ts [] (Some begun) (refl, omega arith)
 

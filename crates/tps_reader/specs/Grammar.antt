@@ -34,7 +34,7 @@ abbrev pub is_letters : List ℕ → Bool
 is_letters [] = false
 is_letters (l ∷ ls) = list_all is_letter (l ∷ ls)
 
--- a type behind others: the function type associates to the left
+-- a type after others: the function type associates to the left
 abbrev pub joined : Option SimpleType → SimpleType → SimpleType
 joined None ty = ty
 joined (Some before) ty = function_type before ty
@@ -43,7 +43,7 @@ abbrev pub with_letters : Option SimpleType → List ℕ → Option SimpleType
 with_letters before [] = before
 with_letters before (l ∷ ls) = with_letters (Some (joined before (base_type l))) ls
 
--- behind what makes one type already, if there is such, the text makes this type
+-- after what makes one type already, if there is such, the text makes this type
 abbrev pub Types : Option SimpleType → TypeText → SimpleType → Type 0
 Types before type_end ty = before ≡ Some ty
 Types before (type_letters s letters rest) ty = (is_letters letters ≡ true) × Types (with_letters before letters) rest ty
@@ -54,7 +54,7 @@ spelled_type type_end = []
 spelled_type (type_letters s letters rest) = standing s (word letters) ∷ spelled_type rest
 spelled_type (type_group s inner t rest) = standing s open_round ∷ (spelled_type inner ++ (standing t close_round ∷ spelled_type rest))
 
--- a type in parentheses behind a name, or none
+-- a type in parentheses after a name, or none
 pub data Written : Type 0 where
   untyped : Written
   typed : Spot → TypeText → Spot → Written
@@ -113,7 +113,7 @@ spelled_constant (lone_tilde s) = standing s tilde ∷ []
 spelled_constant (lone_infix op s) = standing s (word (infix_word op)) ∷ []
 spelled_constant (lone_quantifier b s t text u) = standing s (word (binder_word b)) ∷ standing t open_round ∷ (spelled_type text ++ (standing u close_round ∷ []))
 
--- A phrase as it is written: a name, TRUTH or FALSEHOOD, a constant in square brackets, a phrase in square brackets, a phrase behind
+-- A phrase as it is written: a name, TRUTH or FALSEHOOD, a constant in square brackets, a phrase in square brackets, a phrase after
 -- a dot, an application, a negation, a binder with its scope, or two phrases with a connective between them.
 pub data Phrase : Type 0 where
   named : Spot → List ℕ → Written → Phrase
@@ -170,7 +170,7 @@ rank (negated s p) = 5
 rank (bound s b t name ty p) = 5
 rank (connected op l s r) = infix_rank op
 
--- The phrase doesn't end in one behind a dot, which takes all up to the end of the group in which the dot stands.
+-- The phrase doesn't end in one after a dot, which takes all up to the end of the group in which the dot stands.
 abbrev pub is_closed : Phrase → Bool
 is_closed (named s name ty) = true
 is_closed (truth_value s value) = true
@@ -213,7 +213,7 @@ Says (connected op l s r) v =
 abbrev pub IsFormula : List Token → RawFormula → Type 0
 IsFormula ts v = (p : Phrase) × (spelled p ≡ ts) × Says p v
 
--- the tokens and some others behind them are a formula text
+-- the tokens and some others after them are a formula text
 abbrev pub BeginsFormula : List Token → Type 0
 BeginsFormula ts = (more : List Token) × (v : RawFormula) × IsFormula (ts ++ more) v
 

@@ -4,7 +4,7 @@ use Rattle.std.specs.Prelude.{◌≡◌, ◌⊎◌, ℕ, ◌+◌, ◌≤◌, max
 use Rattle.tps_reader.specs.Tokens.{Sign, open_square, close_square, open_round, close_round, dot, tilde, semicolon, number, word, Token, token}
 
 -- What a group holds: nothing more; a token that is no square bracket, and then more; a group in brackets, and then more; or a bracket
--- that isn't closed, and the group behind it.
+-- that isn't closed, and the group after it.
 pub data Group : Type 0 where
   no_more : Group
   own_token : Token → Group → Group

@@ -175,7 +175,7 @@ group_end (open_application f ∷ fs) v = None
 abbrev pub with_side : Infix → List Frame × RawFormula → State
 with_side op left = (open_side op left.1 ∷ left.0, wanting)
 
--- behind an operand
+-- after an operand
 abbrev pub have : List Frame → RawFormula → Role → ℕ → Option State
 have fs v (a_name name) place = want (open_application v ∷ fs) (a_name name) place
 have fs v (a_truth value) place = want (open_application v ∷ fs) (a_truth value) place
@@ -230,7 +230,7 @@ quantifier_type b (open_binding c name ty place ∷ fs) = None
 quantifier_type b (open_side joint left ∷ fs) = None
 quantifier_type b (open_application f ∷ fs) = None
 
--- behind a binder
+-- after a binder
 abbrev pub bind : List Frame → Binder → ℕ → Role → Option State
 bind fs b here (a_name name) = Some (fs, binding_name b name here)
 bind fs b here (a_truth value) = None
@@ -243,7 +243,7 @@ bind fs b here a_tilde = None
 bind fs b here a_parenthesis = quantifier_type b fs
 bind fs b here another = None
 
--- behind a name, whose type may follow
+-- after a name, whose type may follow
 abbrev pub is_parenthesis : Role → Bool
 is_parenthesis a_parenthesis = true
 is_parenthesis role = false
@@ -253,12 +253,12 @@ after_name fs name here role place =
     if is_parenthesis role then Some (fs, typing (for_variable name here) None [])
     else have (settled 6 fs (raw_variable name None here)).0 (settled 6 fs (raw_variable name None here)).1 role place
 
--- behind a binder and a name, whose type may follow
+-- after a binder and a name, whose type may follow
 abbrev pub after_bound : List Frame → Binder → List ℕ → ℕ → Role → ℕ → Option State
 after_bound fs b name here role place =
     if is_parenthesis role then Some (fs, typing (for_binding b name here) None []) else want (open_binding b name None here ∷ fs) role place
 
--- behind a constant in brackets of its own
+-- after a constant in brackets of its own
 abbrev pub is_closing : Role → Bool
 is_closing a_closing = true
 is_closing role = false
@@ -276,7 +276,7 @@ step (fs, binding_name b name here) (token s place long) = after_bound fs b name
 step (fs, typing target part around) (token s place long) = type_step fs target part around s
 step (fs, ending con here) (token s place long) = constant_end fs con here (role_of s)
 
--- the state behind tokens
+-- the state after tokens
 abbrev pub run : List Token → Option State → Option State
 run [] state = state
 run (t ∷ ts) None = None

@@ -84,7 +84,7 @@ AreTokensOf bytes ts = (characters : List ℕ) × AreCharactersOf bytes characte
 abbrev pub BeginsNone : List ℕ → Type 0
 BeginsNone characters = (w others : List ℕ) (s : Sign) → characters ≡ w ++ others → Spells w others s → ⊥
 
--- behind some tokens and white space stands a character with which no token begins, and this is its place
+-- after some tokens and white space stands a character with which no token begins, and this is its place
 pub record HasBadCharacter (characters : List ℕ) (place : ℕ) : Type 0 where
   pub before : List Token
   pub last : ℕ

@@ -105,7 +105,7 @@ fn number_of(alloc: Global, digits: &[char]) -> Result<Option<u64>, AllocError>
     Ok(numeral(&bytes))
 }
 
-/// The numeral that begins here, and the index behind it.
+/// The numeral that begins here, and the index after it.
 fn numeral_at(
     alloc: Global,
     characters: &[char],
@@ -125,7 +125,7 @@ fn numeral_at(
     }
 }
 
-/// The word that begins here, and the index behind it.
+/// The word that begins here, and the index after it.
 fn word_at(
     alloc: Global,
     characters: &[char],
@@ -147,7 +147,7 @@ fn word_at(
     Ok((Symbol::Word(word), end))
 }
 
-/// The token that begins here, and the index behind it.
+/// The token that begins here, and the index after it.
 fn symbol_at(
     alloc: Global,
     characters: &[char],

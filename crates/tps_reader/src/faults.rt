@@ -2,18 +2,18 @@
 
 use std::alloc::{AllocError, AllocFailed};
 
-/// Why a text is refused. A place is a byte offset from 0. `Memory` comes where memory is wanting.
+/// Why a text is refused. A place is a byte offset from 0. `Memory` comes where memory runs out.
 #[derive(Clone, Copy, Debug, PartialEq, Eq)]
 pub enum RawFault {
     /// The bytes aren't UTF-8.
     NotUtf8,
-    /// No token begins here, behind whole tokens and white space.
+    /// No token begins here, after whole tokens and white space.
     BadCharacter(u64),
     /// The depth of the text is this, above 1,000.
     TooDeep(u64),
     /// No formula text begins with the tokens up to the one here; at the length of the text, the tokens only begin one.
     Unexpected(u64),
-    /// Memory is wanting.
+    /// Memory ran out.
     Memory,
 }
 

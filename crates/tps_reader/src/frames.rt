@@ -140,7 +140,7 @@ fn negation(alloc: Global, operand: Raw, place: u64) -> Result<Raw, AllocError>
     Ok(Raw::Not(boxed(alloc, operand)?, place))
 }
 
-/// A phrase behind a binder and its variable.
+/// A phrase after a binder and its variable.
 fn bound(
     alloc: Global,
     binder: Binder,

@@ -128,7 +128,7 @@ fn group_end(
     Ok(with_atom(alloc, frames, group.moved(place))?)
 }
 
-/// A token behind an operand.
+/// A token after an operand.
 fn have(
     alloc: Global,
     frames: &mut Vec<Frame>,
@@ -157,7 +157,7 @@ fn have(
     }
 }
 
-/// A token behind a name, whose type may follow.
+/// A token after a name, whose type may follow.
 fn after_name(
     alloc: Global,
     frames: &mut Vec<Frame>,
@@ -203,7 +203,7 @@ fn quantifier_type(
     }
 }
 
-/// A token behind a binder.
+/// A token after a binder.
 fn bind(
     alloc: Global,
     frames: &mut Vec<Frame>,
@@ -221,7 +221,7 @@ fn bind(
     }
 }
 
-/// A token behind a binder and a name, whose type may follow.
+/// A token after a binder and a name, whose type may follow.
 fn after_bound(
     alloc: Global,
     frames: &mut Vec<Frame>,
@@ -241,7 +241,7 @@ fn after_bound(
     want(alloc, frames, role, here)
 }
 
-/// A token behind a constant in brackets of its own.
+/// A token after a constant in brackets of its own.
 fn constant_end(
     alloc: Global,
     frames: &mut Vec<Frame>,

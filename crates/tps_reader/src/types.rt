@@ -31,7 +31,7 @@ fn base(c: char) -> Option<Ty>
     }
 }
 
-/// The type behind another one: the function type to that one.
+/// The type after another one: the function type to that one.
 fn join(alloc: Global, before: Option<Ty>, ty: Ty) -> Result<Ty, AllocError>
     ensures { IfOk result (λ whole. plain_type whole ≡ joined (option_map plain_type before) (plain_type ty)) }
 {
@@ -41,7 +41,7 @@ fn join(alloc: Global, before: Option<Ty>, ty: Ty) -> Result<Ty, AllocError>
     }
 }
 
-/// The type with letters behind it. Each character has to be a letter.
+/// The type with letters after it. Each character has to be a letter.
 fn with_letters(
     alloc: Global,
     part: Option<Ty>,
