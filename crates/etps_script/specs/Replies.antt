@@ -126,3 +126,26 @@ Replied s (say_prove n a) new out = IsBegun n a new out ⊎ IsNotBegun s a new o
 Replied s say_undo new out = IsTakenBack s new out ⊎ IsNotTakenBack s new out
 Replied s say_done new out = (new ≡ s) × (out ≡ done_reply s)
 Replied s c new out = IsStep s c new out ⊎ IsNoStep s c new out
+
+-- Want of memory
+
+-- the session is as it was, or begins anew with the only formula for which the phrase stands
+abbrev pub MayHaveBegun : SessionState → ℕ → RawFormula → SessionState → Type 0
+MayHaveBegun s n raw new = (new ≡ s) ⊎ ((goal : Term) × IsOnlyAnnotation raw (Some truth_type) [] goal × (new ≡ beginning n goal))
+
+-- the session is as it was, or the request that was accepted last is taken back
+abbrev pub MayHaveUndone : SessionState → SessionState → Type 0
+MayHaveUndone s new = (new ≡ s) ⊎ ((n : ℕ) × IsUndone s new n)
+
+-- the session is as it was, or has accepted the request of the step
+abbrev pub MayHaveTaken : SessionState → ScriptRequest → SessionState → Type 0
+MayHaveTaken s c new = (new ≡ s) ⊎ ((n : ℕ) × IsTaken s c new n)
+
+-- The session s becomes the new one where memory is wanting for the command or for the reply: it is as it was, or PROVE has begun anew,
+-- UNDO has taken one request back, or the step was accepted.
+abbrev pub IsLeftBy : SessionState → ScriptRequest → SessionState → Type 0
+IsLeftBy s say_nothing new = new ≡ s
+IsLeftBy s (say_prove n a) new = MayHaveBegun s n a new
+IsLeftBy s say_undo new = MayHaveUndone s new
+IsLeftBy s say_done new = new ≡ s
+IsLeftBy s c new = MayHaveTaken s c new

@@ -1,12 +1,12 @@
 //! The replies to the commands of a script.
 
-ghost use Rattle.std.specs.Prelude.{◌≡◌, ◌⊎◌, IfOk, IsSome};
+ghost use Rattle.std.specs.Prelude.{◌≡◌, ◌⊎◌, IfOk, IsSome, OnErr};
 ghost use Rattle.tps_reader.specs.Raws.{plain_raw};
 ghost use Rattle.nd_rules.specs.Lines.{line_of};
 ghost use Rattle.etps_session.specs.Replays.{replay};
 ghost use Rattle.script_text.specs.Commands.{plain_script};
 ghost use Rattle.etps_script.specs.Names.{AreNamesOf};
-ghost use Rattle.etps_script.specs.Replies.{IsBegun, IsNoStep, IsNotBegun, IsNotTakenBack, IsStep, IsTakenBack, Replied, Shows, done_reply};
+ghost use Rattle.etps_script.specs.Replies.{IsBegun, IsLeftBy, IsNoStep, IsNotBegun, IsNotTakenBack, IsStep, IsTakenBack, MayHaveBegun, MayHaveTaken, MayHaveUndone, Replied, Shows, done_reply};
 ghost use Rattle.etps_script.specs.Requests.{line_number as line_number_of};
 
 use crate::known::{KnownNames, known_names, with_step};
@@ -38,7 +38,8 @@ fn shown(alloc: Global, session: &Session, number: u64) -> Result<Text, AllocErr
 
 /// PROVE: begins anew with the goal.
 fn prove(alloc: Global, session: &mut Session, number: u64, goal: &Raw) -> Result<Text, AllocError>
-    ensures { IfOk result (λ out. IsBegun number (plain_raw goal.now) session.new out ⊎ IsNotBegun session.old (plain_raw goal.now) session.new out) }
+    ensures reply { IfOk result (λ out. IsBegun number (plain_raw goal.now) session.new out ⊎ IsNotBegun session.old (plain_raw goal.now) session.new out) }
+    ensures left { OnErr result (MayHaveBegun session.old number (plain_raw goal.now) session.new) }
 {
     let known = Vars::new(alloc);
     match formula_beside(alloc, goal, &known) {
@@ -52,7 +53,8 @@ fn prove(alloc: Global, session: &mut Session, number: u64, goal: &Raw) -> Resul
 
 /// UNDO: takes the last accepted command back.
 fn undo(alloc: Global, session: &mut Session) -> Result<Text, AllocError>
-    ensures { IfOk result (λ out. IsTakenBack session.old session.new out ⊎ IsNotTakenBack session.old session.new out) }
+    ensures reply { IfOk result (λ out. IsTakenBack session.old session.new out ⊎ IsNotTakenBack session.old session.new out) }
+    ensures left { OnErr result (MayHaveUndone session.old session.new) }
 {
     match session.undo() {
         Ok(number) => numbered(alloc, b"UNDONE ", number),
@@ -84,6 +86,7 @@ fn step(
     requires names { AreNamesOf (replay session.old) names }
     ensures reply { IfOk result (λ r. IsStep session.old (plain_script script.now) session.new r.0 ⊎ IsNoStep session.old (plain_script script.now) session.new r.0) }
     ensures names { IfOk result (λ r. AreNamesOf (replay session.new) r.1) }
+    ensures left { OnErr result (MayHaveTaken session.old (plain_script script.now) session.new) }
 {
     let count = session.outline().len();
     match take(alloc, session, &names.known, script) {
@@ -106,7 +109,8 @@ fn lone_step(
     script: &ScriptCommand,
 ) -> Result<Text, AllocError>
     requires { IsSome (line_number_of (plain_script script.now)) }
-    ensures { IfOk result (λ out. IsStep session.old (plain_script script.now) session.new out ⊎ IsNoStep session.old (plain_script script.now) session.new out) }
+    ensures reply { IfOk result (λ out. IsStep session.old (plain_script script.now) session.new out ⊎ IsNoStep session.old (plain_script script.now) session.new out) }
+    ensures left { OnErr result (MayHaveTaken session.old (plain_script script.now) session.new) }
 {
     let names = known_names(alloc, session.outline())?;
     let (reply, _) = step(alloc, session, names, script)?;
@@ -114,13 +118,14 @@ fn lone_step(
 }
 
 /// Does what the command asks for, and answers the reply, without an end of line. An error comes only where memory is wanting; then the
-/// session is as it was, or has taken the command.
+/// session is as it was, or has taken the command: PROVE has begun anew, UNDO has taken one command back, or the step was accepted.
 pub fn execute(
     alloc: Global,
     session: &mut Session,
     script: &ScriptCommand,
 ) -> Result<Text, AllocError>
-    ensures { IfOk result (λ out. Replied session.old (plain_script script.now) session.new out) }
+    ensures replied { IfOk result (λ out. Replied session.old (plain_script script.now) session.new out) }
+    ensures left { OnErr result (IsLeftBy session.old (plain_script script.now) session.new) }
 {
     match script {
         ScriptCommand::Blank => Ok(Text::new(alloc)),
