@@ -3,3 +3,4 @@ pub mod Deciding
 pub mod Formulas
 pub mod Generating
 pub mod Showing
+pub mod Writing

@@ -1,9 +1,8 @@
 -- What `prove` answers to its input.
 use Rattle.std.specs.Prelude.{◌≡◌, ℕ, List, [], ◌∷◌, ◌++◌, codes, decimal, Some}
-use Rattle.core_text.specs.Written.{written}
 use Rattle.hol_terms.specs.Terms.{Term, truth_type}
 use Rattle.plain_search.specs.Proofs.{IsLeastProof, IsProofInBudget}
-use Rattle.proof_text.specs.Texts.{Proof, proof_form}
+use Rattle.proof_text.specs.Texts.{IsProofText, IsWithinLimits, IsWrittenProof, Proof}
 use Rattle.tps_reader.specs.Faults.{IsFormulaText}
 use Rattle.tps_reader.specs.Raws.{RawFormula}
 use Rattle.type_infer.specs.Faults.{IsOnlyAnnotation}
@@ -15,13 +14,15 @@ use Rattle.tps_cli.specs.declared.status.Status.TheVariants.{Done, No, Words, Ba
 abbrev pub StandsFor : List ℕ → Term → Type 0
 StandsFor bytes formula = (raw : RawFormula) × IsFormulaText bytes raw × IsOnlyAnnotation raw (Some truth_type) [] formula
 
--- the output is the text of an expansion proof of the formula that the bytes stand for: one in the budget, with the least weight there
+-- The output is what is written for an expansion proof of the formula that the bytes stand for, one in the budget, with the least weight there:
+-- its spaced text and LF. Within the limits of reading it is a text of that proof.
 pub record IsProved (budget : Budget) (bytes out : List ℕ) : Type 0 where
   pub formula : Term
   pub text : StandsFor bytes formula
   pub proof : Proof
   pub least : IsLeastProof formula budget.weight budget.level proof
-  pub output : out ≡ written (proof_form proof) ++ 10 ∷ []
+  pub written : IsWrittenProof out proof
+  pub read : IsWithinLimits out → IsProofText out proof
 
 -- no expansion proof of the formula that the bytes stand for is in the budget, and the output names the weight that was asked
 pub record IsUnknown (budget : Budget) (bytes out : List ℕ) : Type 0 where
