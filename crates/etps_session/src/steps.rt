@@ -49,8 +49,15 @@ fn put_line(outline: &mut Outline, line: Line) -> Result<Change, AllocError>
     ensures err { OnErr result (outline.new ≡ outline.old) }
 {
     if outline.find(line.number).is_some() {
-        let Line { number, why, .. } = line;
-        let _ = outline.set_why(number, why);
+        let Line {
+            number,
+            hyps,
+            formula,
+            why,
+        } = line;
+        drop(hyps);
+        drop(formula);
+        drop(outline.set_why(number, why));
         return Ok(Change::Justified);
     }
     match outline.insert(line) {
@@ -69,10 +76,10 @@ pub(crate) fn take_back(outline: &mut Outline, number: u64, change: Change)
     let _rising = outline.as_slice();
     match change {
         Change::Added => {
-            let _ = outline.take(number);
+            drop(outline.take(number));
         }
         Change::Justified => {
-            let _ = outline.set_why(number, Why::Planned);
+            drop(outline.set_why(number, Why::Planned));
         }
     }
 }
@@ -90,7 +97,10 @@ pub(crate) fn undone(step: Step) -> (u64, Change)
     ensures number { result.0 ≡ number_of (plain_command step.command) }
     ensures change { result.1 ≡ step.change }
 {
-    (step.command.number(), step.change)
+    let number = step.command.number();
+    let change = step.change;
+    drop(step);
+    (number, change)
 }
 
 /// Takes the command up, whose line was accepted. An error comes only where memory is wanting, and then nothing is changed.

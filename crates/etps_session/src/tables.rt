@@ -2,9 +2,10 @@
 
 ghost use Rattle.std.specs.Prelude.{◌≡◌, IfOk, IfSome, Option};
 ghost use Rattle.std.specs.Option.{option_map};
-ghost use Rattle.hol_terms.specs.Terms.{plain_term, plain_type};
+ghost use Rattle.hol_terms.specs.Terms.{application, constant, forall, implication as implication_constant, plain_term, plain_type};
 ghost use Rattle.hol_terms.specs.Typing.{IsFormula};
 ghost use Rattle.nd_rules.specs.Lines.{plain_line};
+ghost use Rattle.nd_rules.specs.Rules.{implies};
 ghost use Rattle.etps_session.specs.Commands.{IsTyped, plain_command};
 ghost use Rattle.etps_session.specs.Tables.{formula_at, generalization_of, implication_of, instance_in, or_truth, table_formula as table_formula_of, table_line as table_line_of, universal_in};
 
@@ -30,6 +31,23 @@ fn formula_of(outline: &Outline, number: u64) -> Option<&Tm>
     }
 }
 
+/// IMPLIES applied to a copy of the formula.
+fn implication_from(alloc: Global, left: &Tm) -> Result<Tm, AllocError>
+    ensures { IfOk result (λ t. plain_term t ≡ application (constant implication_constant) (plain_term left.now)) }
+{
+    let left = copy(alloc, left)?;
+    Tm::app(alloc, Tm::Con(Con::Implies), left)
+}
+
+/// The implication between copies of the formulas.
+fn implied(alloc: Global, left: &Tm, right: &Tm) -> Result<Tm, AllocError>
+    ensures { IfOk result (λ t. plain_term t ≡ implies (plain_term left.now) (plain_term right.now)) }
+{
+    let half = implication_from(alloc, left)?;
+    let right = copy(alloc, right)?;
+    Tm::app(alloc, half, right)
+}
+
 /// DEDUCT: the source, implied by the hypothesis.
 fn implication(
     alloc: Global,
@@ -46,10 +64,7 @@ fn implication(
     let Some(right) = formula_of(outline, source) else {
         return Ok(None);
     };
-    let left = copy(alloc, left)?;
-    let right = copy(alloc, right)?;
-    let half = Tm::app(alloc, Tm::Con(Con::Implies), left)?;
-    Ok(Some(Tm::app(alloc, half, right)?))
+    Ok(Some(implied(alloc, left, right)?))
 }
 
 /// UI: the instance of a universal source with the term, where this has the type.
@@ -74,6 +89,13 @@ fn instance(
     Ok(Some(instantiate(alloc, quantified.body, term)?))
 }
 
+/// The quantifier ALL of a type.
+fn quantifier(alloc: Global, ty: &Ty) -> Result<Tm, AllocError>
+    ensures { IfOk result (λ t. plain_term t ≡ constant (forall (plain_type ty.now))) }
+{
+    Ok(Tm::Con(Con::All(ty.copy(alloc)?)))
+}
+
 /// The formula, universal over the variable.
 fn universal(alloc: Global, formula: &Tm, name: &Name, ty: &Ty) -> Result<Tm, AllocError>
     requires { IsFormula (plain_term formula.now) }
@@ -82,8 +104,8 @@ fn universal(alloc: Global, formula: &Tm, name: &Name, ty: &Ty) -> Result<Tm, Al
 {
     let body = abstract_over(alloc, name, ty, formula)?;
     let predicate = Tm::lam_over(alloc, ty, body)?;
-    let quantifier = Tm::Con(Con::All(ty.copy(alloc)?));
-    let formula = Tm::app(alloc, quantifier, predicate)?;
+    let head = quantifier(alloc, ty)?;
+    let formula = Tm::app(alloc, head, predicate)?;
     Ok(formula)
 }
 

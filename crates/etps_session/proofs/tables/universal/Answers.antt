@@ -1,5 +1,5 @@
 use Rattle.std.proofs.Common.{◌≡◌, ◌∙◌, ap₂}
-use Rattle.hol_terms.specs.Terms.{SimpleType, Term, application, constant, forall, plain_term, plain_type, truth_type}
+use Rattle.hol_terms.specs.Terms.{Term, application, plain_term, plain_type, truth_type}
 use Rattle.hol_terms.proofs.TypingLaws.{typed_is_closed}
 use Rattle.nd_rules.specs.Rules.{universal}
 use Rattle.etps_session.proofs.Typed.{universal_is, universal_typed}
@@ -11,11 +11,11 @@ abstract_over-requires c = typed_is_closed (plain_term c.args.formula.now) truth
 pub returns-clause-formula : goal.returns-clause-formula
 returns-clause-formula c =
     let made : plain_term c.in_ok-formula.formula ≡ universal (plain_type c.args.ty.now) (plain_term c.in_ok-body.body) =
-    c.in_ok-formula.ensures ∙ ap₂ (λ (s : SimpleType) (p : Term). application (constant (forall s)) p) c.in_ok-copy.ensures c.in_ok-predicate.ensures in
+    c.in_ok-formula.ensures ∙ ap₂ (λ (q : Term) (p : Term). application q p) c.in_ok-head.ensures c.in_ok-predicate.ensures in
     universal_is c.args.name.now (plain_type c.args.ty.now) (plain_term c.args.formula.now) (plain_term c.in_ok-body.body) (plain_term c.in_ok-formula.formula) c.requires c.in_ok-body.ensures made
 
 pub returns-clause-formed : goal.returns-clause-formed
 returns-clause-formed c =
     let made : plain_term c.in_ok-formula.formula ≡ universal (plain_type c.args.ty.now) (plain_term c.in_ok-body.body) =
-    c.in_ok-formula.ensures ∙ ap₂ (λ (s : SimpleType) (p : Term). application (constant (forall s)) p) c.in_ok-copy.ensures c.in_ok-predicate.ensures in
+    c.in_ok-formula.ensures ∙ ap₂ (λ (q : Term) (p : Term). application q p) c.in_ok-head.ensures c.in_ok-predicate.ensures in
     universal_typed c.args.name.now (plain_type c.args.ty.now) (plain_term c.args.formula.now) (plain_term c.in_ok-body.body) (plain_term c.in_ok-formula.formula) c.requires c.in_ok-body.ensures made
