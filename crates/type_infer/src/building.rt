@@ -1,7 +1,7 @@
 //! The term of a phrase, by the types of its numbers.
 
 ghost use Rattle.std.specs.Prelude.{◌≡◌, [], IfOk};
-ghost use Rattle.hol_terms.specs.Terms.{plain_constant, plain_term, plain_type};
+ghost use Rattle.hol_terms.specs.Terms.{abstraction, application, conjunction, constant, implication, plain_constant, plain_term, plain_type};
 ghost use Rattle.tps_reader.specs.Raws.{plain_raw};
 ghost use Rattle.type_infer.specs.Annotations.{compound as compound_term, connected as connected_terms, innermost};
 ghost use Rattle.type_infer.specs.Assignments.{annotated, bound_over, occurrence as occurrence_of};
@@ -86,6 +86,47 @@ fn compound(alloc: Global, con: Con, left: Tm, right: Tm) -> Result<Tm, AllocErr
     Tm::app(alloc, applied, right)
 }
 
+/// The implication between copies of two sides.
+fn forth(alloc: Global, left: &Tm, right: &Tm) -> Result<Tm, AllocError>
+    ensures { IfOk result (λ t. plain_term t ≡ compound_term implication (plain_term left.now) (plain_term right.now)) }
+{
+    let left = copy(alloc, left)?;
+    match copy(alloc, right) {
+        Ok(right) => compound(alloc, Con::Implies, left, right),
+        Err(error) => {
+            drop(left);
+            Err(error)
+        }
+    }
+}
+
+/// The conjunction of a formula and the implication back between two sides.
+fn with_back(alloc: Global, forth: Tm, left: Tm, right: Tm) -> Result<Tm, AllocError>
+    ensures { IfOk result (λ t. plain_term t ≡ compound_term conjunction (plain_term forth) (compound_term implication (plain_term right) (plain_term left))) }
+{
+    match compound(alloc, Con::Implies, right, left) {
+        Ok(back) => compound(alloc, Con::And, forth, back),
+        Err(error) => {
+            drop(forth);
+            Err(error)
+        }
+    }
+}
+
+/// Both implications between two sides.
+fn equivalence(alloc: Global, left: Tm, right: Tm) -> Result<Tm, AllocError>
+    ensures { IfOk result (λ t. plain_term t ≡ connected_terms Infix.Equiv (plain_term left) (plain_term right)) }
+{
+    match forth(alloc, &left, &right) {
+        Ok(forth) => with_back(alloc, forth, left, right),
+        Err(error) => {
+            drop(left);
+            drop(right);
+            Err(error)
+        }
+    }
+}
+
 /// A connective between two sides.
 fn connected(alloc: Global, op: Infix, left: Tm, right: Tm) -> Result<Tm, AllocError>
     ensures { IfOk result (λ t. plain_term t ≡ connected_terms op (plain_term left) (plain_term right)) }
@@ -94,15 +135,19 @@ fn connected(alloc: Global, op: Infix, left: Tm, right: Tm) -> Result<Tm, AllocE
         Infix::And => compound(alloc, Con::And, left, right),
         Infix::Or => compound(alloc, Con::Or, left, right),
         Infix::Implies => compound(alloc, Con::Implies, left, right),
-        Infix::Equiv => {
-            let forth = compound(
-                alloc,
-                Con::Implies,
-                copy(alloc, &left)?,
-                copy(alloc, &right)?,
-            )?;
-            let back = compound(alloc, Con::Implies, right, left)?;
-            compound(alloc, Con::And, forth, back)
+        Infix::Equiv => { equivalence(alloc, left, right) }
+    }
+}
+
+/// A quantifier over a variable of the type.
+fn quantified(alloc: Global, quantifier: Con, ty: Ty, body: Tm) -> Result<Tm, AllocError>
+    ensures { IfOk result (λ t. plain_term t ≡ application (constant (plain_constant quantifier)) (abstraction (plain_type ty) (plain_term body))) }
+{
+    match Tm::lam(alloc, ty, body) {
+        Ok(predicate) => Tm::app(alloc, Tm::Con(quantifier), predicate),
+        Err(error) => {
+            drop(quantifier);
+            Err(error)
         }
     }
 }
@@ -113,14 +158,22 @@ fn bound(alloc: Global, binder: Binder, ty: Ty, body: Tm) -> Result<Tm, AllocErr
 {
     match binder {
         Binder::Lambda => Tm::lam(alloc, ty, body),
-        Binder::Forall => {
-            let quantifier = Tm::Con(Con::All(ty.copy(alloc)?));
-            Tm::app(alloc, quantifier, Tm::lam(alloc, ty, body)?)
-        }
-        Binder::Exists => {
-            let quantifier = Tm::Con(Con::Ex(ty.copy(alloc)?));
-            Tm::app(alloc, quantifier, Tm::lam(alloc, ty, body)?)
-        }
+        Binder::Forall => match ty.copy(alloc) {
+            Ok(own) => quantified(alloc, Con::All(own), ty, body),
+            Err(error) => {
+                drop(ty);
+                drop(body);
+                Err(error)
+            }
+        },
+        Binder::Exists => match ty.copy(alloc) {
+            Ok(own) => quantified(alloc, Con::Ex(own), ty, body),
+            Err(error) => {
+                drop(ty);
+                drop(body);
+                Err(error)
+            }
+        },
     }
 }
 

@@ -2,10 +2,11 @@
 
 ghost use Rattle.std.specs.Prelude.{◌≡◌, ◌+◌, ◌∷◌, ◌++◌, [], IfOk, OnOk, map};
 ghost use Rattle.std.specs.Option.{option_map};
-ghost use Rattle.hol_terms.specs.Terms.{plain_type};
+ghost use Rattle.hol_terms.specs.Terms.{plain_constant, plain_type, truth_type};
+ghost use Rattle.hol_terms.specs.Typing.{type_of_constant};
 ghost use Rattle.tps_reader.specs.Raws.{plain_raw};
 ghost use Rattle.type_infer.specs.Annotations.{innermost};
-ghost use Rattle.type_infer.specs.Conditions.{all_conditions, asked, binder_conditions, conditions_of, occurrence_conditions, own_type};
+ghost use Rattle.type_infer.specs.Conditions.{all_conditions, asked, binder_conditions, conditions_of, is_given, occurrence_conditions, own_type};
 ghost use Rattle.type_infer.specs.Equations.{plain_condition, plain_equation};
 ghost use Rattle.type_infer.specs.Scopes.{binders};
 
@@ -14,6 +15,7 @@ use crate::scopes::Scope;
 use hol_terms::indices::raised_index;
 use hol_terms::lists::Vars;
 use hol_terms::names::Name;
+use hol_terms::terms::Con;
 use hol_terms::types::Ty;
 use std::alloc::{AllocError, Global};
 use tps_reader::raws::{Binder, Raw};
@@ -45,6 +47,58 @@ fn add<'a>(
 {
     conditions.push(Condition { place, equation })?;
     Ok(())
+}
+
+/// The type is that of truth values.
+fn ask_truth<'a>(
+    conditions: &mut Vec<Condition<'a>>,
+    place: u64,
+    number: u64,
+) -> Result<(), AllocError>
+    ensures { OnOk result (map plain_condition conditions.new.items ≡ map plain_condition conditions.old.items ++ (place, is_given number truth_type) ∷ []) }
+{
+    add(conditions, place, Equation::Given(number, Ty::truth()))
+}
+
+/// What a constant asks of its type.
+fn constant<'a>(
+    alloc: Global,
+    conditions: &mut Vec<Condition<'a>>,
+    place: u64,
+    con: &Con,
+    number: u64,
+) -> Result<(), AllocError>
+    ensures { OnOk result (map plain_condition conditions.new.items ≡ map plain_condition conditions.old.items ++ (place, is_given number (type_of_constant (plain_constant con.now))) ∷ []) }
+{
+    let ty = con.type_of(alloc)?;
+    add(conditions, place, Equation::Given(number, ty))
+}
+
+/// What a negation asks of the type below it and of its own.
+fn negation<'a>(
+    conditions: &mut Vec<Condition<'a>>,
+    place: u64,
+    below: u64,
+    own: u64,
+) -> Result<(), AllocError>
+    ensures { OnOk result (map plain_condition conditions.new.items ≡ map plain_condition conditions.old.items ++ (place, is_given below truth_type) ∷ (place, is_given own truth_type) ∷ []) }
+{
+    ask_truth(conditions, place, below)?;
+    ask_truth(conditions, place, own)
+}
+
+/// What a connective asks of the types of its sides and of its own.
+fn connective<'a>(
+    conditions: &mut Vec<Condition<'a>>,
+    place: u64,
+    left: u64,
+    right: u64,
+    own: u64,
+) -> Result<(), AllocError>
+    ensures { OnOk result (map plain_condition conditions.new.items ≡ map plain_condition conditions.old.items ++ (place, is_given left truth_type) ∷ (place, is_given right truth_type) ∷ (place, is_given own truth_type) ∷ []) }
+{
+    ask_truth(conditions, place, left)?;
+    negation(conditions, place, right, own)
 }
 
 /// The type is the given one, where one is given.
@@ -97,10 +151,7 @@ fn binding<'a>(
     ensures { OnOk result (map plain_condition conditions.new.items ≡ map plain_condition conditions.old.items ++ binder_conditions binder place variable body) }
 {
     match binder {
-        Binder::Forall | Binder::Exists => {
-            add(conditions, place, Equation::Given(body, Ty::truth()))?;
-            add(conditions, place, Equation::Given(own, Ty::truth()))
-        }
+        Binder::Forall | Binder::Exists => { negation(conditions, place, body, own) }
         Binder::Lambda => add(conditions, place, Equation::Function(own, body, variable)),
     }
 }
@@ -125,11 +176,7 @@ fn collect<'a>(
             Ok(first)
         }
         Raw::Con(con, place) => {
-            add(
-                conditions,
-                *place,
-                Equation::Given(first, con.type_of(alloc)?),
-            )?;
+            constant(alloc, conditions, *place, con, first)?;
             Ok(first)
         }
         Raw::App(function, argument, place) => {
@@ -176,16 +223,13 @@ fn collect<'a>(
                 right,
             )?;
             let own = raised_index(right, 1)?;
-            add(conditions, *place, Equation::Given(left, Ty::truth()))?;
-            add(conditions, *place, Equation::Given(right, Ty::truth()))?;
-            add(conditions, *place, Equation::Given(own, Ty::truth()))?;
+            connective(conditions, *place, left, right, own)?;
             Ok(own)
         }
         Raw::Not(below, place) => {
             let below = collect(alloc, conditions, known, scope, first, below)?;
             let own = raised_index(below, 1)?;
-            add(conditions, *place, Equation::Given(below, Ty::truth()))?;
-            add(conditions, *place, Equation::Given(own, Ty::truth()))?;
+            negation(conditions, *place, below, own)?;
             Ok(own)
         }
     }
