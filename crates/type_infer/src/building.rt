@@ -1,7 +1,7 @@
 //! The term of a phrase, by the types of its numbers.
 
-ghost use Rattle.std.specs.Prelude.{◌≡◌, [], IfOk};
-ghost use Rattle.hol_terms.specs.Terms.{abstraction, application, conjunction, constant, implication, plain_constant, plain_term, plain_type};
+ghost use Rattle.std.specs.Prelude.{◌≡◌, ◌+◌, [], IfOk};
+ghost use Rattle.hol_terms.specs.Terms.{abstraction, application, conjunction, constant, implication, negation, plain_constant, plain_term, plain_type};
 ghost use Rattle.tps_reader.specs.Raws.{plain_raw};
 ghost use Rattle.type_infer.specs.Annotations.{compound as compound_term, connected as connected_terms, innermost};
 ghost use Rattle.type_infer.specs.Assignments.{annotated, bound_over, occurrence as occurrence_of};
@@ -205,6 +205,68 @@ struct Built {
     own: u64,
 }
 
+/// A term with the number behind the given one.
+fn with_next(term: Tm, before: u64) -> Result<Built, AllocError>
+    ensures term { IfOk result (λ b. plain_term b.term ≡ plain_term term) }
+    ensures own { IfOk result (λ b. b.own ≡ before + 1) }
+{
+    match raised_index(before, 1) {
+        Ok(own) => Ok(Built { term, own }),
+        Err(error) => {
+            drop(term);
+            Err(error)
+        }
+    }
+}
+
+/// A phrase that is applied to another one.
+fn applied(alloc: Global, function: Built, argument: Built) -> Result<Built, AllocError>
+    ensures term { IfOk result (λ b. plain_term b.term ≡ application (plain_term function.term) (plain_term argument.term)) }
+    ensures own { IfOk result (λ b. b.own ≡ argument.own + 1) }
+{
+    let Built {
+        term: function,
+        own: _,
+    } = function;
+    let Built {
+        term: argument,
+        own,
+    } = argument;
+    let term = Tm::app(alloc, function, argument)?;
+    with_next(term, own)
+}
+
+/// A phrase behind a binder over a variable of the type.
+fn binding(alloc: Global, binder: Binder, ty: Ty, body: Built) -> Result<Built, AllocError>
+    ensures term { IfOk result (λ b. plain_term b.term ≡ bound_over binder (plain_type ty) (plain_term body.term)) }
+    ensures own { IfOk result (λ b. b.own ≡ body.own + 1) }
+{
+    let Built { term: body, own } = body;
+    let term = bound(alloc, binder, ty, body)?;
+    with_next(term, own)
+}
+
+/// A connective between two phrases.
+fn between(alloc: Global, op: Infix, left: Built, right: Built) -> Result<Built, AllocError>
+    ensures term { IfOk result (λ b. plain_term b.term ≡ connected_terms op (plain_term left.term) (plain_term right.term)) }
+    ensures own { IfOk result (λ b. b.own ≡ right.own + 1) }
+{
+    let Built { term: left, own: _ } = left;
+    let Built { term: right, own } = right;
+    let term = connected(alloc, op, left, right)?;
+    with_next(term, own)
+}
+
+/// The negation of a phrase.
+fn negated(alloc: Global, below: Built) -> Result<Built, AllocError>
+    ensures term { IfOk result (λ b. plain_term b.term ≡ application (constant negation) (plain_term below.term)) }
+    ensures own { IfOk result (λ b. b.own ≡ below.own + 1) }
+{
+    let Built { term: below, own } = below;
+    let term = Tm::app(alloc, Tm::Con(Con::Not), below)?;
+    with_next(term, own)
+}
+
 /// The term of a phrase whose numbers begin with `first`, with the letter at each open type.
 fn build(
     alloc: Global,
@@ -231,9 +293,7 @@ fn build(
             let function = build(alloc, solution, letter, scope, first, function)?;
             let next = raised_index(function.own, 1)?;
             let argument = build(alloc, solution, letter, scope, next, argument)?;
-            let own = raised_index(argument.own, 1)?;
-            let term = Tm::app(alloc, function.term, argument.term)?;
-            Ok(Built { term, own })
+            applied(alloc, function, argument)
         }
         Raw::Bind(binder, name, _, body, _) => {
             let inner = Scope::Under(name, first, scope);
@@ -245,24 +305,18 @@ fn build(
                 raised_index(first, 1)?,
                 body,
             )?;
-            let own = raised_index(body.own, 1)?;
             let ty = type_of_number(alloc, solution, letter, first)?;
-            let term = bound(alloc, *binder, ty, body.term)?;
-            Ok(Built { term, own })
+            binding(alloc, *binder, ty, body)
         }
         Raw::Bin(op, left, right, _) => {
             let left = build(alloc, solution, letter, scope, first, left)?;
             let next = raised_index(left.own, 1)?;
             let right = build(alloc, solution, letter, scope, next, right)?;
-            let own = raised_index(right.own, 1)?;
-            let term = connected(alloc, *op, left.term, right.term)?;
-            Ok(Built { term, own })
+            between(alloc, *op, left, right)
         }
         Raw::Not(below, _) => {
             let below = build(alloc, solution, letter, scope, first, below)?;
-            let own = raised_index(below.own, 1)?;
-            let term = Tm::app(alloc, Tm::Con(Con::Not), below.term)?;
-            Ok(Built { term, own })
+            negated(alloc, below)
         }
     }
 }
