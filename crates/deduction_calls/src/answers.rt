@@ -23,7 +23,7 @@ pub enum NoAnswer {
     Rejected,
     /// The arguments are no derivation, form, term or type.
     Text(TextFault),
-    /// Memory is wanting.
+    /// Memory ran out.
     Memory,
 }
 
@@ -47,7 +47,7 @@ pub fn number_or_none(alloc: Global, number: Option<u64>) -> Answer {
     }
 }
 
-/// Adds the terms, each behind a space.
+/// Adds the terms, each after a space.
 pub fn push_terms(alloc: Global, answer: &mut String, terms: &Terms) -> Result<(), NoAnswer> {
     for t in terms.as_slice() {
         push_term(alloc, answer, t)?;

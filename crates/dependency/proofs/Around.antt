@@ -39,7 +39,7 @@ branch_spans at above u step g h =
     (spans_more (at + 1) (at + total g) at (at + total g) (places at step g) (omega arith) (omega arith) h)
 
 mutual
-  -- the branches of a tree have nodes behind its root
+  -- the branches of a tree have nodes after its root
   pub places_span : (at above : ℕ) (g : StagedTree) → Each (Spans (at + 1) (at + total g)) (places at above g)
   places_span at above (staged_leaf p a) = each-nil (Spans (at + 1) (at + 1))
   places_span at above (staged_constant p v) = each-nil (Spans (at + 1) (at + 1))

@@ -31,7 +31,7 @@ AreParents-push occurrences parents e p o many is_o up h f q less is_q =
           rw (← one, place, get_or_push parents p 0 f (omega (arith, many, last))) up)
     ]
 
--- where one occurrence begins behind a node, so do those behind it
+-- where one occurrence begins after a node, so do those after it
 pub begin_behind : (occurrences : List Occurrence) (e node : ℕ) (o : Occurrence) → AreNested occurrences → slice_get occurrences (e + 1 - 1) ≡ Some o → node < o.first
     → (f : ℕ) (p : Occurrence) → e < f → occurrence_at occurrences f ≡ Some p → node < p.first
 begin_behind occurrences e node o nested at behind f p less is_p =

@@ -10,7 +10,7 @@ use Rattle.dependency.specs.Walks.{AllIn, AreMarked, is_in, is_placed, is_unseen
 use Rattle.dependency.proofs.Lists.{both_false, Contains_from_is_in, distinct-cons, distinct-head, distinct-nil, distinct-tail, is_in_from_Contains, is_in-reverse}
 use Rattle.dependency.proofs.Steps.{Contains_at, get_or_at_place}
 
--- the front of a list up to a number that is in it
+-- a prefix of a list up to a number that is in it
 
 leads-up_to : (R : ℕ → ℕ → Type 0) (v x : ℕ) (xs : List ℕ) → Leads R x xs → Leads R x (up_to v xs)
 leads-up_to R v x [] h = tt

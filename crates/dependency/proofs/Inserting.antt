@@ -1,4 +1,4 @@
--- Numbers put into an order that keeps a relation, one after the other: what a new one reaches goes behind it.
+-- Numbers put into an order that keeps a relation, one after the other: what a new one reaches goes after it.
 use Rattle.std.proofs.Common.{◌≡◌, ◌≤◌, ℕ, zero, suc, List, [], ◌∷◌, ◌++◌, Bool, true, false, Contains, nat_eq, refl, sym, subst, arith, inl, inr, ◌⊎◌}
 use Rattle.std.specs.List.{IsDistinct}
 use Rattle.std.proofs.lemmas.Bool.Decides.{eqb_tells}
@@ -39,7 +39,7 @@ sorted-append R (x ∷ xs) ys h k apart = (
   sorted-append R xs ys h.2 k (λ u there. apart u (Contains-later x xs u there)),
 )
 
--- a sorted list in two parts, of which those that are reached go behind
+-- a sorted list in two parts, of which those that are reached go after
 record Parts (R : ℕ → ℕ → Type 0) (Reached : ℕ → Type 0) (from ys : List ℕ) : Type 0 where
   kept : List ℕ
   moved : List ℕ

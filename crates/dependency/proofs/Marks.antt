@@ -94,7 +94,7 @@ placed_looked : (graph : List (List ℕ)) (placed : List ℕ) (w k : ℕ) (b : B
 placed_looked graph placed w k true m e h = cc
 placed_looked graph placed w k false m e h = h e
 
--- a vertex whose predecessors are placed is placed behind them
+-- a vertex whose predecessors are placed is placed after them
 behind-push : (graph : List (List ℕ)) (placed : List ℕ) (v : ℕ) → AllIn placed (predecessors graph v)
     → ((i : ℕ) → i < length placed → AllIn (take i placed) (predecessors graph (slice_index placed i)))
     → (i : ℕ) → i < length (placed ++ v ∷ []) → AllIn (take i (placed ++ v ∷ [])) (predecessors graph (slice_index (placed ++ v ∷ []) i))

@@ -32,7 +32,7 @@ all_at P (y ∷ ys) (suc i) x h e = all_at P ys i x h.1 e
 
 -- occurrences
 
--- one occurrence before another: it begins before, and the other's branch is behind its own or within
+-- one occurrence before another: it begins before, and the other's branch is after its own or within
 abbrev Apart : Occurrence → Occurrence → Type 0
 Apart o p = (o.first < p.first) × ((o.last < p.first) ⊎ (p.last ≤ o.last))
 

@@ -42,7 +42,7 @@ IsCycle graph list = IsClosedChain (IsEdge graph) list × IsDistinct nat_eq list
 abbrev pub StandsInOrder : (ℕ → ℕ → Type 0) → List ℕ → Type 0
 StandsInOrder R list = (i j x y : ℕ) → slice_get list i ≡ Some x → slice_get list j ≡ Some y → R x y → i < j
 
--- all vertices, each once, and each behind its predecessors
+-- all vertices, each once, and each after its predecessors
 pub record IsTopological (graph : List (List ℕ)) (list : List ℕ) : Type 0 where
   pub vertices : All (λ v. v < length graph) list
   pub all : (v : ℕ) → v < length graph → Contains list v

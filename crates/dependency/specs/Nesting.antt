@@ -51,7 +51,7 @@ abbrev pub shortened : List (List ℕ) → ℕ → List ℕ → List ℕ
 shortened graph x [] = []
 shortened graph x (y ∷ ys) = if nat_eq x (slice_index (predecessors graph y) 0) then shortened graph y ys else y ∷ shortened graph y ys
 
--- none of the occurrences behind e, up to a bound, reaches the node
+-- none of the occurrences after e, up to a bound, reaches the node
 abbrev pub IsPast : List Occurrence → ℕ → ℕ → ℕ → Type 0
 IsPast occurrences e bound node = (f : ℕ) (o : Occurrence) → e < f → f ≤ bound → occurrence_at occurrences f ≡ Some o → o.last < node
 
@@ -64,7 +64,7 @@ pub record AreSelections (selections : List Selection) : Type 0 where
   pub rising : (i j : ℕ) (s t : Selection) → slice_get selections i ≡ Some s → slice_get selections j ≡ Some t → i < j → s.node ≤ t.node
   pub once : (i j : ℕ) (s t : Selection) → slice_get selections i ≡ Some s → slice_get selections j ≡ Some t → s.variable ≡ t.variable → i ≡ j
 
--- of the occurrences that begin up to the node, so many were opened, and none behind the innermost of them reaches it
+-- of the occurrences that begin up to the node, so many were opened, and none after the innermost of them reaches it
 pub record IsScanned (occurrences : List Occurrence) (opened innermost node : ℕ) : Type 0 where
   pub within : opened ≤ length occurrences
   pub among : innermost ≤ opened

@@ -82,7 +82,7 @@ abbrev pub IsSortingOf : List (List ℕ) → Sorting → Type 0
 IsSortingOf graph (Order list) = IsTopological graph list.items
 IsSortingOf graph (Cycle list) = IsCycle graph list.items
 
--- the front of a list that ends with the first v
+-- a prefix of a list that ends with the first v
 abbrev pub up_to : ℕ → List ℕ → List ℕ
 up_to v [] = []
 up_to v (x ∷ xs) = if nat_eq v x then x ∷ [] else x ∷ up_to v xs

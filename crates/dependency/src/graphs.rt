@@ -6,7 +6,7 @@ ghost use Rattle.dependency.specs.Walks.{IsNewest, IsSortingOf, IsWalk, Meets, i
 
 use std::alloc::{AllocError, Global};
 
-/// All vertices of a graph in an order in which each stands behind its predecessors, or a cycle in which each is a predecessor of the
+/// All vertices of a graph in an order in which each stands after its predecessors, or a cycle in which each is a predecessor of the
 /// next, and the last of the first.
 #[derive(Drop)]
 pub enum Sorting {

@@ -7,7 +7,7 @@ pub fn orders()
     ensures { HasOrder }
 {}
 
-/// The branches of a tree can be added step by step, each behind those that it waits for, exactly where the dependency relation has no
+/// The branches of a tree can be added step by step, each after those that it waits for, exactly where the dependency relation has no
 /// closed chain.
 pub fn stages()
     ensures exist { HasStages }

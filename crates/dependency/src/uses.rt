@@ -29,7 +29,7 @@ fn selected_variables(alloc: Global, fitted: &Fitted) -> Result<VariableSet, All
     Ok(variables)
 }
 
-/// Puts the owner of the variable behind the others, where it is a selected one.
+/// Puts the owner of the variable after the others, where it is a selected one.
 #[inline(never)]
 fn put_use(
     row: &mut Vec<u64>,
@@ -50,7 +50,7 @@ fn put_use(
     }
 }
 
-/// Puts the owners of the selected variables that are free in the term behind the others.
+/// Puts the owners of the selected variables that are free in the term after the others.
 fn put_uses(
     row: &mut Vec<u64>,
     variables: &VariableSet,

@@ -41,7 +41,7 @@ last_from : (at : ℕ) (b : ℕ) (bytes : List ℕ) → position_from (λ b. b =
 last_from at b [] e = last_by_test at b [] (b == 10) refl e (λ _. refl)
 last_from at b (c ∷ cs) e = last_by_test at b (c ∷ cs) (b == 10) refl e (λ h. ap (with_front b) (last_from (at + 1) c cs h))
 
--- the first line, and those behind its end
+-- the first line, and those after its end
 pub cut_rest : (bytes : List ℕ) (i : ℕ) → Some i ≡ position_from (λ b. b == 10) 0 bytes → script_lines bytes ≡ take i bytes ∷ script_lines (take (length bytes - (i + 1)) (drop (i + 1) bytes))
 cut_rest bytes i e =
     let c = cut_from 0 bytes i (sym e) in

@@ -130,7 +130,7 @@ length_why : (lines : List DeductionLine) (n : ℕ) (w : Justification) → leng
 length_why [] n w = refl
 length_why (x ∷ xs) n w = ap suc (length_why xs n w)
 
--- the lines behind a step
+-- the lines after a step
 
 -- those that are free in the lines and in one more
 free_with_line : (lines : List DeductionLine) (l : DeductionLine) (old new : List Variable) → AreFreeIn lines old → GainsFree old new l.formula → AreFreeIn (with_line lines l) new

@@ -1,4 +1,4 @@
--- The replies to the lines of a script, as they are written one behind the other.
+-- The replies to the lines of a script, as they are written one after the other.
 use Rattle.std.proofs.Common.{ℕ, suc, List, [], ◌∷◌, ◌++◌, true, length, ◌==◌, ◌≡◌, refl, sym, ap, subst, ◌∙◌, append_assoc, arith}
 use Rattle.std.proofs.lemmas.Bool.Decides.{nat_tests}
 use Rattle.std.proofs.lemmas.List.{append-nil}

@@ -29,7 +29,7 @@ pub no_step : (s : SessionState) (c : ScriptRequest) (new : SessionState) (e : R
     → IsRefused s c e → new ≡ s → e ≢ refusal.Memory → out ≡ refused_reply e → IsStep s c new out ⊎ IsNoStep s c new out
 no_step s c new e out h kept told text = inr (record { fault = e; told = told; refused = h; kept = kept; reply = text })
 
--- the outline behind a step that was taken
+-- the outline after a step that was taken
 pub step_after : (s : SessionState) (c : ScriptRequest) (new : SessionState) (n : ℕ) (names : KnownNames) (count : ℕ) (lines : List DeductionLine)
     → IsTaken s c new n → AreNamesOf (replay s) names → count ≡ length (replay s) → lines ≡ replay new → IsStepAfter names count n lines
 step_after s c new n names count lines h before counted after = record {

@@ -10,7 +10,7 @@ use Rattle.etps_script.specs.declared.refusals.Refusal.{Refusal}
 use Rattle.etps_script.specs.declared.refusals.Refusal.TheVariants as refusal
 
 -- why a command is refused: no goal was started, its number is taken, a phrase stands for no term or for more than one, the rules refuse
--- its line, or nothing is left to undo; nothing is told of want of memory
+-- its line, or nothing is left to undo; nothing is told of running out of memory
 abbrev pub words : Refusal → List ℕ
 words refusal.Memory = []
 words refusal.NoGoal = codes "NOGOAL"

@@ -141,7 +141,7 @@ MayHaveUndone s new = (new ≡ s) ⊎ ((n : ℕ) × IsUndone s new n)
 abbrev pub MayHaveTaken : SessionState → ScriptRequest → SessionState → Type 0
 MayHaveTaken s c new = (new ≡ s) ⊎ ((n : ℕ) × IsTaken s c new n)
 
--- The session s becomes the new one where memory is wanting for the command or for the reply: it is as it was, or PROVE has begun anew,
+-- The session s becomes the new one where memory runs out for the command or for the reply: it is as it was, or PROVE has begun anew,
 -- UNDO has taken one request back, or the step was accepted.
 abbrev pub IsLeftBy : SessionState → ScriptRequest → SessionState → Type 0
 IsLeftBy s say_nothing new = new ≡ s

@@ -177,7 +177,7 @@ fn with_formula(alloc: Global, names: KnownNames, formula: &Tm) -> Result<KnownN
     Ok(KnownNames { tally, known })
 }
 
-/// The names that the outline knows behind a step, from those that it knew before it, when it had so many lines: where it has one line
+/// The names that the outline knows after a step, from those that it knew before it, when it had so many lines: where it has one line
 /// more, this has the number, and its variables come in; else a planned line was justified, and the formulas are the same.
 pub(crate) fn with_step(
     alloc: Global,

@@ -15,7 +15,7 @@ fn line_end(bytes: &[u8]) -> Option<usize>
     bytes.iter().position(|b| *b == END_OF_LINE)
 }
 
-/// The first line of the bytes, and those behind its end.
+/// The first line of the bytes, and those after its end.
 #[tactic(auto, using(crate::proofs::Cutting::cut_rest, crate::proofs::Cutting::cut_last))]
 pub(crate) fn first_line(bytes: &[u8]) -> (&[u8], &[u8])
     requires { bytes.now ≢ [] }

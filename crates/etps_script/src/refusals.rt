@@ -13,7 +13,7 @@ use tps_reader::faults::RawFault;
 /// Why a command is refused.
 #[derive(Drop)]
 pub(crate) enum Refusal {
-    /// Memory is wanting.
+    /// Memory ran out.
     Memory,
     /// No goal was started.
     NoGoal,
@@ -69,7 +69,7 @@ pub(crate) fn numbered(alloc: Global, bytes: &[u8], number: u64) -> Result<Text,
     Ok(text)
 }
 
-/// Appends the words by which a refusal is told; nothing for want of memory.
+/// Appends the words by which a refusal is told; nothing when memory runs out.
 fn append_words(alloc: Global, text: &mut Text, refusal: &Refusal) -> Result<(), AllocError>
     ensures { OnOk result (text.new ≡ text.old ++ words refusal.now) }
 {
@@ -84,7 +84,7 @@ fn append_words(alloc: Global, text: &mut Text, refusal: &Refusal) -> Result<(),
     }
 }
 
-/// The reply to a command that is refused. An error comes only where memory is wanting, or was.
+/// The reply to a command that is refused. An error comes only where memory runs out, or ran out before.
 pub(crate) fn refused(alloc: Global, refusal: &Refusal) -> Result<Text, AllocError>
     ensures told { OnOk result (refusal.now ≢ Refusal.Memory) }
     ensures text { IfOk result (λ text. text ≡ refused_reply refusal.now) }
@@ -97,7 +97,7 @@ pub(crate) fn refused(alloc: Global, refusal: &Refusal) -> Result<Text, AllocErr
     Ok(text)
 }
 
-/// The reply to a line that isn't that of a command. An error comes only where memory is wanting, or was.
+/// The reply to a line that isn't that of a command. An error comes only where memory runs out, or ran out before.
 pub(crate) fn refused_line(alloc: Global, fault: CommandFault) -> Result<Text, AllocError>
     ensures told { OnOk result (fault ≢ CommandFault.Memory) }
     ensures text { IfOk result (λ text. text ≡ refused_line_of fault) }

@@ -117,7 +117,7 @@ fn lone_step(
     Ok(reply)
 }
 
-/// Does what the command asks for, and answers the reply, without an end of line. An error comes only where memory is wanting; then the
+/// Does what the command asks for, and answers the reply, without an end of line. An error comes only where memory runs out; then the
 /// session is as it was, or has taken the command: PROVE has begun anew, UNDO has taken one command back, or the step was accepted.
 pub fn execute(
     alloc: Global,

@@ -53,7 +53,7 @@ fn append_reply(
 }
 
 /// The replies to the lines of a script, each with an end of line, from the session without a goal on. An error comes only where memory
-/// is wanting. The names that the outline knows are kept from line to line, so that a step costs its own work.
+/// runs out. The names that the outline knows are kept from line to line, so that a step costs its own work.
 pub fn run_script(alloc: Global, bytes: &[u8]) -> Result<Text, AllocError>
     ensures { IfOk result (λ out. Replies bytes.now out) }
 {

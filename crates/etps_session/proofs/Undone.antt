@@ -29,7 +29,7 @@ found_number (x ∷ xs) n m e = go (found_number xs n m) (eqb_tells x.number n)
     go rest (inl here) = let same : Some x ≡ Some m = sym (ap (λ (b : Bool). cond b (Some x) (line_of xs n)) here.0) ∙ e in let eq : x ≡ m = cc in sym (ap (λ (l : DeductionLine). l.number) eq) ∙ here.1
     go rest (inr other) = rest (sym (ap (λ (b : Bool). cond b (Some x) (line_of xs n)) other.0) ∙ e)
 
--- the line that isn't there is behind the first one neither, which has another number
+-- the line that isn't there is after the first one neither, which has another number
 absent_later : (x : DeductionLine) (xs : List DeductionLine) (n : ℕ) → line_of (x ∷ xs) n ≡ None → ((x.number == n) ≡ false) × (line_of xs n ≡ None)
 absent_later x xs n e = go (x.number == n) refl
   where

@@ -3,7 +3,7 @@
 use nd_rules::faults::RuleFault;
 use std::alloc::{AllocError, AllocFailed};
 
-/// Why a command isn't accepted: the first of `NoGoal`, `NumberTaken` and `Rule` that holds, or want of memory.
+/// Why a command isn't accepted: the first of `NoGoal`, `NumberTaken` and `Rule` that holds, or running out of memory.
 #[derive(Drop)]
 pub enum SessionFault {
     /// No goal was started.
@@ -12,7 +12,7 @@ pub enum SessionFault {
     NumberTaken,
     /// The rules refuse the line. This isn't `RuleFault::Memory`.
     Rule(RuleFault),
-    /// Memory is wanting.
+    /// Memory ran out.
     Memory,
 }
 

@@ -96,7 +96,7 @@ impl Session {
     }
 
     /// Begins anew with the formula for a goal: it is planned at the number, without hypotheses, and no command is accepted yet. An
-    /// error comes only where memory is wanting, and then nothing is changed.
+    /// error comes only where memory runs out, and then nothing is changed.
     pub fn start(&mut self, number: u64, goal: Tm) -> Result<(), AllocError>
         requires { IsFormula (plain_term goal) }
         ensures ok { OnOk result (self.new ≡ record { goal = Some (record { number = number; formula = plain_term goal }); requests = [] }) }

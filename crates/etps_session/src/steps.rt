@@ -39,7 +39,7 @@ pub(crate) struct Step {
     pub(crate) change: Change,
 }
 
-/// Puts a line in, or gives the line that has its number its justification. An error comes only where memory is wanting, and then
+/// Puts a line in, or gives the line that has its number its justification. An error comes only where memory runs out, and then
 /// nothing is changed.
 fn put_line(outline: &mut Outline, line: Line) -> Result<Change, AllocError>
     requires formula { IsFormula (plain_term line.formula) }
@@ -84,7 +84,7 @@ pub(crate) fn take_back(outline: &mut Outline, number: u64, change: Change)
     }
 }
 
-/// Adds a command with what became of its line. An error comes only where memory is wanting, and then nothing is changed.
+/// Adds a command with what became of its line. An error comes only where memory runs out, and then nothing is changed.
 fn push_step(steps: &mut Vec<Step>, command: Command, change: Change) -> Result<(), AllocError>
     ensures ok { OnOk result (map plain_step steps.new.items ≡ map plain_step steps.old.items ++ (plain_command command, change) ∷ []) }
     ensures err { OnErr result (steps.new.items ≡ steps.old.items) }
@@ -103,7 +103,7 @@ pub(crate) fn undone(step: Step) -> (u64, Change)
     (number, change)
 }
 
-/// Takes the command up, whose line was accepted. An error comes only where memory is wanting, and then nothing is changed.
+/// Takes the command up, whose line was accepted. An error comes only where memory runs out, and then nothing is changed.
 pub(crate) fn accept(
     outline: &mut Outline,
     steps: &mut Vec<Step>,

@@ -6,7 +6,7 @@ use hol_terms::lists::Numbers;
 /// Why a formula, a tree and a mating are no expansion proof: the first of these, in this order, that holds.
 #[derive(Drop)]
 pub enum CheckFault {
-    /// Memory is wanting.
+    /// Memory ran out.
     Memory,
     /// The tree is no expansion tree of the formula.
     Fit(FitFault),

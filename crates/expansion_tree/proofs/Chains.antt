@@ -15,6 +15,6 @@ branches_from-append (x ∷ xs) ys bs = ap (branch (plain_term x.0) (plain_tree 
 pub chain_on : (old new : List (Tm × Tree)) (item : Tm × Tree) (bs bs' all : ExpansionBranches) → old ≡ new ++ item ∷ [] → bs' ≡ branch (plain_term item.0) (plain_tree item.1) bs → branches_from old bs ≡ all → branches_from new bs' ≡ all
 chain_on old new item bs bs' all e f h = ap (branches_from new) f ∙ sym (branches_from-append new (item ∷ []) bs) ∙ ap (λ l. branches_from l bs) (sym e) ∙ h
 
--- one branch more, copied behind the others
+-- one branch more, copied after the others
 pub copy_on : (old new : List (Tm × Tree)) (item : Tm × Tree) (left more all : ExpansionBranches) → new ≡ old ++ item ∷ [] → left ≡ branch (plain_term item.0) (plain_tree item.1) more → branches_from old left ≡ all → branches_from new more ≡ all
 copy_on old new item left more all e f h = ap (λ l. branches_from l more) e ∙ branches_from-append old (item ∷ []) more ∙ ap (branches_from old) (sym f) ∙ h

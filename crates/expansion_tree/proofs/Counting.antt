@@ -17,7 +17,7 @@ node_count-positive (connective_node op t u) = omega arith
 node_count-positive (selection_node name t) = omega arith
 node_count-positive (expansion_node bs) = omega arith
 
--- the occurrence behind the first ones is closed
+-- the occurrence after the first ones is closed
 pub closed-behind : (front : List Occurrence) (o : Occurrence) (back : List Occurrence) (last : ℕ)
     → closed_at (length front) last (front ++ o ∷ back) ≡ front ++ record { first = o.first; last = last; term = o.term } ∷ back
 closed-behind [] o back last = refl

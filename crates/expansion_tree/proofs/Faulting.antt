@@ -10,7 +10,7 @@ use Rattle.expansion_tree.specs.Standing.{negation_of, compound_of, left_polarit
 use Rattle.expansion_tree.specs.Faults.{FirstFault}
 use Rattle.expansion_tree.specs.Stood.{Findings, Stood, UnlessMemory}
 
--- want of memory alone
+-- running out of memory alone
 pub memory_alone : (P : FitFault → Type 0) (r : Result (Matrix × ℕ) FitFault) → IfErr r (λ e. e ≡ Memory) → IfErr r (λ e. UnlessMemory e (P e))
 memory_alone P (Ok x) h = tt
 memory_alone P (Err e) h = rw h tt

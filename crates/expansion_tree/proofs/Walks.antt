@@ -154,7 +154,7 @@ negation_stood t p a b node end old new m e x =
       counted = omega (arith, x.counted);
     }
 
--- how many leaves there are behind those of a tree
+-- how many leaves there are after those of a tree
 leaves_after : (old middle : Findings) (ls : List (Bool × Term)) (ss : List Selection) (vs : List Variable) (n : ℕ) → middle ≡ with_more old ls ss vs → length ls ≡ n → length middle.leaf_list ≡ length old.leaf_list + n
 leaves_after old middle ls ss vs n e f = ap (λ (g : Findings). length g.leaf_list) e ∙ length-append old.leaf_list ls ∙ ap (λ (k : ℕ). length old.leaf_list + k) f
 

@@ -37,11 +37,11 @@ with_more old more_leaves more_selections more_taken = record {
   taken = old.taken ++ more_taken;
 }
 
--- nothing is changed, but that the variable may have come behind those that are taken
+-- nothing is changed, but that the variable may have come after those that are taken
 abbrev pub MayHaveTaken : Findings → Findings → Variable → Type 0
 MayHaveTaken old new v = (new ≡ old) ⊎ (new ≡ with_more old [] [] (v ∷ []))
 
--- The tree, whose root has the number node, was stood at the formula of polarity p: its leaves and its selected variables came behind
+-- The tree, whose root has the number node, was stood at the formula of polarity p: its leaves and its selected variables came after
 -- the old ones, the matrix has its paths, and end is the number after those of its nodes.
 pub record Stood (p : Bool) (a : Term) (tree : ExpansionTree) (node : ℕ) (old new : Findings) (matrix : Matrix) (end : ℕ) : Type 0 where
   pub standing : Standing
@@ -72,7 +72,7 @@ pub record BranchesStood (p : Bool) (ty : SimpleType) (b : Term) (bs : Expansion
   pub numbered : AreNumberedTo (length new.leaf_list) matrices
   pub counted : end ≡ at + branch_node_count bs
 
--- the fact, where the fault isn't want of memory
+-- the fact, where the fault isn't running out of memory
 abbrev pub UnlessMemory : FitFault → Type 0 → Type 0
 UnlessMemory Memory P = Unit {0}
 UnlessMemory (Misfit k) P = P

@@ -5,7 +5,7 @@ use std::alloc::{AllocError, AllocFailed};
 /// Why a tree isn't an expansion tree of a formula. Nodes are numbered from 1 in preorder, the branches of an expansion in their order.
 #[derive(Clone, Copy, Debug, PartialEq, Eq)]
 pub enum FitFault {
-    /// Memory is wanting.
+    /// Memory ran out.
     Memory,
     /// The node of this number can't stand at its formula and polarity.
     Misfit(u64),

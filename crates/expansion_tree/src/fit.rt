@@ -107,7 +107,7 @@ fn stand_constant(node: u64, positive: bool, formula: Tm) -> Result<(Matrix, u64
     }
 }
 
-/// Stands the tree at the formula, its root having the number `node`: puts its leaves and its selected variables behind those that
+/// Stands the tree at the formula, its root having the number `node`: puts its leaves and its selected variables after those that
 /// were found, and answers its matrix and the number after those of its nodes.
 #[cycle(stand)]
 pub fn stand(

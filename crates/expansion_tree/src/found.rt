@@ -44,7 +44,7 @@ fn selected_at(alloc: Global, node: u64, name: &Name, ty: &Ty) -> Result<Selecte
 }
 
 impl Found {
-    /// Puts a leaf behind the others. An `Err` changes nothing.
+    /// Puts a leaf after the others. An `Err` changes nothing.
     #[inline(never)]
     pub fn add_leaf(&mut self, positive: bool, formula: Tm) -> Result<(), AllocError>
         ensures ok { OnOk result (findings_of self.new ≡ with_more (findings_of self.old) ((positive, plain_term formula) ∷ []) [] []) }
@@ -54,7 +54,7 @@ impl Found {
         Ok(())
     }
 
-    /// Puts the variable that a node selects behind the others, and tells whether it wasn't taken; where it was, nothing is changed. After
+    /// Puts the variable that a node selects after the others, and tells whether it wasn't taken; where it was, nothing is changed. After
     /// an `Err` it may be taken, and nothing else is changed.
     #[inline(never)]
     pub fn select(

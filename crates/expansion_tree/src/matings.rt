@@ -30,7 +30,7 @@ impl Mating {
         }
     }
 
-    /// Puts a pair behind the others. An `Err` changes nothing.
+    /// Puts a pair after the others. An `Err` changes nothing.
     pub fn push(&mut self, i: u64, j: u64) -> Result<(), AllocError>
         ensures ok { OnOk result (self.new ≡ self.old ++ (i, j) ∷ []) }
         ensures err { OnErr result (self.new ≡ self.old) }

@@ -28,7 +28,7 @@ fn sum(a: u64, b: u64) -> Result<u64, AllocError>
     }
 }
 
-/// Puts the occurrences of a tree, whose root has the number `at`, behind those that were found; answers the number after those of
+/// Puts the occurrences of a tree, whose root has the number `at`, after those that were found; answers the number after those of
 /// its nodes.
 #[cycle(occur)]
 fn add_tree(
@@ -106,7 +106,7 @@ fn close(found: &mut Vec<Occurrence>, place: usize, end: u64)
     found[place].last = end - 1;
 }
 
-/// Puts the occurrences of a tree, whose root has the number `at`, behind those that were found; answers the number after those of
+/// Puts the occurrences of a tree, whose root has the number `at`, after those that were found; answers the number after those of
 /// its nodes. An `Err` changes nothing.
 pub fn add_occurrences(
     alloc: Global,

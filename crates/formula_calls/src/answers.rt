@@ -23,7 +23,7 @@ pub enum NoAnswer {
     Raw(RawFault),
     /// The arguments are no line of a script.
     Command(CommandFault),
-    /// Memory is wanting.
+    /// Memory ran out.
     Memory,
 }
 

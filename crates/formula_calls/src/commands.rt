@@ -9,7 +9,7 @@ use script_text::readers::read_command;
 use std::alloc::Global;
 use tps_reader::raws::Raw;
 
-/// The text, and the numbers, each behind a space.
+/// The text, and the numbers, each after a space.
 fn with_numbers(alloc: Global, text: &str, numbers: &[u64]) -> Answer {
     let mut answer = String::from_str(alloc, text)?;
     for n in numbers {
@@ -18,7 +18,7 @@ fn with_numbers(alloc: Global, text: &str, numbers: &[u64]) -> Answer {
     Ok(answer)
 }
 
-/// The text, and a phrase behind a space.
+/// The text, and a phrase after a space.
 fn with_phrase(alloc: Global, text: Answer, phrase: &Raw) -> Answer {
     let text = text?;
     let phrase = raw_text(alloc, phrase)?;
@@ -38,7 +38,7 @@ fn witness_text(alloc: Global, numbers: &[u64], term: &Raw, formula: &Raw) -> An
     Ok(format!(in alloc; "{head} ; {formula}")?)
 }
 
-/// The text, and behind a space a name.
+/// The text, and after a space a name.
 fn with_name(alloc: Global, text: Answer, name: Answer) -> Answer {
     let text = text?;
     let name = name?;

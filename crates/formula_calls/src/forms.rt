@@ -13,7 +13,7 @@ use core_text::types::read_type;
 use hol_terms::lists::{Text, Vars};
 use std::alloc::{AllocError, Global};
 
-/// What stands in front of the bar, as a form, and the text behind it.
+/// What stands in front of the bar, as a form, and the text after it.
 pub fn form_and_text(alloc: Global, arguments: &str) -> Result<(Sexp, &str), NoAnswer> {
     match arguments.split_once(" | ") {
         None => Err(NoAnswer::Arguments),
@@ -43,7 +43,7 @@ pub fn read_bytes(alloc: Global, arguments: &str) -> Result<Text, NoAnswer> {
     Ok(text)
 }
 
-/// The text so many times behind the first one.
+/// The text so many times after the first one.
 fn repeated(alloc: Global, count: u64, first: &str, text: &str) -> Result<String, AllocError> {
     let mut whole = String::from_str(alloc, first)?;
     for _ in 0..count {

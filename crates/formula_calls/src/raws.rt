@@ -8,7 +8,7 @@ use hol_terms::types::Ty;
 use std::alloc::Global;
 use tps_reader::raws::{Binder, Infix, Raw};
 
-/// The name, and behind a colon the type where one is written.
+/// The name, and after a colon the type where one is written.
 fn variable_text(alloc: Global, name: &Name, ty: &Option<Ty>) -> Answer {
     let name = name_text(alloc, name)?;
     match ty {

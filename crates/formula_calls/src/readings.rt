@@ -69,7 +69,7 @@ fn phrase_between(alloc: Global, tokens: &Tokens, range: &Sexp, origin: u64, end
     )
 }
 
-/// `((FIRST BEHIND) ORIGIN END) | TEXT`: the phrase of the tokens from the first one to the one before that behind them, with places
+/// `((FIRST BEHIND) ORIGIN END) | TEXT`: the phrase of the tokens from the first one to the one before that after them, with places
 /// from the origin on.
 pub fn phrase(alloc: Global, arguments: &str) -> Answer {
     let (form, text) = form_and_text(alloc, arguments)?;

@@ -31,7 +31,7 @@ pub inserted_first : (u : Term) (n : Standing) (ns : StandingBranches) → IsIns
 inserted_first u n none_standing = refl
 inserted_first u n (branch_standing w m ns) = inl refl
 
--- behind all others
+-- after all others
 abbrev pub pushed : StandingBranches → Term → Standing → StandingBranches
 pushed none_standing u n = branch_standing u n none_standing
 pushed (branch_standing w m ns) u n = branch_standing w m (pushed ns u n)

@@ -14,7 +14,7 @@ IsBare (at_selection v n) = IsBare n
 IsBare (at_expansion p ns) = ns ≡ none_standing
 
 abbrev mutual
-  -- t and t' are the tree s with one more branch, at the same place: behind the others of an expansion node, with the term u, and with
+  -- t and t' are the tree s with one more branch, at the same place: after the others of an expansion node, with the term u, and with
   -- the tree b in t, b' in t'
   pub AreGrown : Term → Standing → Standing → Standing → Standing → Standing → Type 0
   AreGrown u b b' (at_leaf p a) t t' = ⊥
@@ -34,6 +34,6 @@ abbrev mutual
       ⊎ ((more : StandingBranches) × (more' : StandingBranches) × AreBranchesGrown u b b' ns more more'
       × (ms ≡ branch_standing w n more) × (ms' ≡ branch_standing w n more'))
 
--- t is the tree s with one more branch, behind the others of an expansion node: the term u with the tree b
+-- t is the tree s with one more branch, after the others of an expansion node: the term u with the tree b
 abbrev pub IsGrown : Term → Standing → Standing → Standing → Type 0
 IsGrown u b s t = AreGrown u b b s t t

@@ -22,11 +22,11 @@ fails_first (BadForm k) r f h = ap (λ r. r >>= f) h
 fails_first (IllTyped k) r f h = absurd h
 fails_first (LooseIndex k) r f h = absurd h
 
--- the items behind those that were read
+-- the items after those that were read
 abbrev pub behind : {A : Type 0} → List A → Result (List A) ℕ → Result (List A) ℕ
 behind front r = r >>= λ ps. Ok (front ++ ps)
 
--- one item more, at the front of what is behind or at the end of what was read
+-- one item more, at the front of what is after or at the end of what was read
 one_on : {A : Type 0} (old new : List A) (x : A) (r : Result (List A) ℕ) → new ≡ old ++ x ∷ [] → behind new r ≡ behind old (r >>= λ xs. Ok (x ∷ xs))
 one_on {A = A} old new x (Ok xs) e = let longer : new ++ xs ≡ old ++ x ∷ xs = ap (λ l. l ++ xs) e ∙ append_assoc old (x ∷ []) xs in ap (λ l. let r : Result (List A) ℕ = Ok l in r) longer
 one_on {A = A} old new x (Err k) e = refl

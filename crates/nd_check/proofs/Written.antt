@@ -1,4 +1,4 @@
--- Lines and their parts, written one behind the other.
+-- Lines and their parts, written one after the other.
 use Rattle.std.proofs.Common.{◌≡◌, ℕ, List, [], ◌∷◌, ◌++◌, codes, decimal, refl, ◌∙◌, ap, append_assoc}
 use Rattle.hol_terms.specs.Terms.{Term}
 use Rattle.core_text.specs.CoreForms.{term_form, triple_form}

@@ -81,7 +81,7 @@ abbrev pub lines_at : Option ℕ → PlacedAll → Result (List DeductionLine) �
 lines_at last none_at = Ok []
 lines_at last (more_at p ps) = line_at last p >>= λ l. lines_at (Some l.number) ps >>= λ ls. Ok (l ∷ ls)
 
--- the members of the form of a derivation behind its first word
+-- the members of the form of a derivation after its first word
 pub record Parts : Type 0 where
   pub version : Placed
   pub lines : PlacedAll
@@ -145,7 +145,7 @@ lines_judged ls ps = terms_judged ls ps >>= λ done. formulas_judged ls ps
 abbrev pub derivation_at : Placed → Result (List DeductionLine) TextFault
 derivation_at f = with_fault (λ k. BadForm k) (parts_at f) >>= λ q. with_fault (λ k. BadForm k) (lines_in q) >>= λ ls. lines_judged ls q.lines >>= λ done. Ok ls
 
--- the fault is want of memory, or the first one of the bytes: what keeps them from being a text of one form, or the first fault of
+-- the fault is running out of memory, or the first one of the bytes: what keeps them from being a text of one form, or the first fault of
 -- that form
 abbrev pub IsFirstFault : List ℕ → TextFault → Type 0
 IsFirstFault bytes e = IsFaultUnlessMemory e (form_fault bytes) ⊎ ((f : Placed) × IsPlacedText bytes f × IsFaultUnlessMemory e (fault_in (derivation_at f)))

@@ -48,7 +48,7 @@ pub record IsDerivationText (bytes : List ℕ) (lines : List DeductionLine) : Ty
   pub names : LinesHaveNames lines
   pub outline : IsOutline lines
 
--- The bytes are what is written for these lines: their form with one space between members, none behind ( and none before ), and LF at the
+-- The bytes are what is written for these lines: their form with one space between members, none after ( and none before ), and LF at the
 -- end. There is at least one line, the lines are an outline, all names are names, and all numbers have 64 bits.
 pub record IsWrittenDerivation (bytes : List ℕ) (lines : List DeductionLine) : Type 0 where
   pub same : bytes ≡ written (derivation_form lines) ++ 10 ∷ []

@@ -21,7 +21,7 @@ use nd_rules::lines::Line;
 use nd_rules::outlines::Outline;
 use std::alloc::{AllocError, Global};
 
-/// The members of the form of a derivation behind its first word: the version, and at least one line.
+/// The members of the form of a derivation after its first word: the version, and at least one line.
 #[derive(Clone, Copy)]
 pub struct TextParts<'a> {
     pub version: &'a Sexp,

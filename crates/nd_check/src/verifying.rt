@@ -18,7 +18,7 @@ use std::alloc::{AllocError, Global};
 /// Why an outline is no derivation: the first line that isn't justified or is planned, and else a last line with hypotheses.
 #[derive(Drop)]
 pub enum VerifyFault {
-    /// Memory is wanting.
+    /// Memory ran out.
     Memory,
     /// The line of this number isn't justified.
     BadLine { number: u64, fault: RuleFault },
@@ -123,7 +123,7 @@ impl VerifyFault {
     }
 
     /// Appends the line by which the fault is told, without an end of line: `LINE`, the number of the line, and the words of the
-    /// refusal, `PLANNED` or `NOTCLOSED`; nothing for want of memory. An error comes only where memory is wanting, and then nothing is
+    /// refusal, `PLANNED` or `NOTCLOSED`; nothing when memory runs out. An error comes only where memory runs out, and then nothing is
     /// changed.
     pub fn append_line(&self, alloc: Global, out: &mut Text) -> Result<(), AllocError>
         ensures ok { OnOk result (out.new ≡ out.old ++ fault_line self.now) }

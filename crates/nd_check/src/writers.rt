@@ -18,7 +18,7 @@ use nd_rules::lines::{Line, Why};
 use nd_rules::outlines::Outline;
 use std::alloc::{AllocError, Global};
 
-/// Adds numbers at the end of the text, each behind a space.
+/// Adds numbers at the end of the text, each after a space.
 fn append_numbers(alloc: Global, out: &mut Text, numbers: &[u64]) -> Result<(), AllocError>
     ensures numerals { IfOk result (λ _. AreNumerals numbers.now) }
     ensures text { IfOk result (λ _. out.new ≡ out.old ++ written_others (number_forms numbers.now)) }
@@ -145,7 +145,7 @@ fn append_line(alloc: Global, out: &mut Text, line: &Line) -> Result<(), AllocEr
     Ok(())
 }
 
-/// Adds lines at the end of the text, each behind a space.
+/// Adds lines at the end of the text, each after a space.
 fn append_lines(alloc: Global, out: &mut Text, lines: &[Line]) -> Result<(), AllocError>
     ensures names { IfOk result (λ _. LinesHaveNames (map plain_line lines.now)) }
     ensures numerals { IfOk result (λ _. LinesHaveNumerals (map plain_line lines.now)) }
@@ -171,8 +171,8 @@ fn append_derivation(alloc: Global, out: &mut Text, lines: &[Line]) -> Result<()
     Ok(())
 }
 
-/// The text of an outline of at least one line, with one space between members, none behind `(` and none before `)`, and LF at the end.
-/// It is read again as that outline, within the limits of reading. An error comes only where memory is wanting.
+/// The text of an outline of at least one line, with one space between members, none after `(` and none before `)`, and LF at the end.
+/// It is read again as that outline, within the limits of reading. An error comes only where memory runs out.
 pub fn write_derivation(alloc: Global, outline: &Outline) -> Result<Text, AllocError>
     requires { 0 < length outline.now }
     ensures written { IfOk result (λ text. IsWrittenDerivation text outline.now) }

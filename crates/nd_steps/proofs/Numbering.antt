@@ -78,7 +78,7 @@ pub numbered_with : (k : ℕ) (lines : List DeductionLine) (l : DeductionLine) �
 numbered_with k [] l h e = (omega (arith, e), tt)
 numbered_with k (x ∷ xs) l h e = (h.0, numbered_with (k + 1) xs l h.1 (omega (arith, e)))
 
--- it goes behind all others
+-- it goes after all others
 pub with_line_last : (k : ℕ) (lines : List DeductionLine) (l : DeductionLine) → IsNumberedFrom k lines → l.number ≡ k + length lines → with_line lines l ≡ lines ++ l ∷ []
 with_line_last k [] l h e = refl
 with_line_last k (x ∷ xs) l h e =

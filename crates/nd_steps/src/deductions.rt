@@ -18,7 +18,7 @@ use nd_rules::outlines::Outline;
 use std::alloc::{AllocError, Global};
 use std::marker::Model;
 
-/// Puts in a line whose number no other has. An error comes only where memory is wanting, and then nothing is changed.
+/// Puts in a line whose number no other has. An error comes only where memory runs out, and then nothing is changed.
 fn put(outline: &mut Outline, line: Line) -> Result<(), AllocError>
     requires formula { IsFormula (plain_term line.formula) }
     requires term { HasTypedTerms (plain_why line.why) }
@@ -33,7 +33,7 @@ fn put(outline: &mut Outline, line: Line) -> Result<(), AllocError>
     }
 }
 
-/// The number behind this many, and equal hypotheses.
+/// The number after this many, and equal hypotheses.
 fn number_behind(alloc: Global, before: u64, hyps: &Hyps) -> Result<(u64, Hyps), AllocError>
     ensures number { IfOk result (λ r. r.0 ≡ before + 1) }
     ensures hyps { IfOk result (λ r. r.1 ≡ hyps.now) }
@@ -43,7 +43,7 @@ fn number_behind(alloc: Global, before: u64, hyps: &Hyps) -> Result<(u64, Hyps),
     Ok((number, hyps))
 }
 
-/// The line behind this many.
+/// The line after this many.
 fn line_behind(
     alloc: Global,
     before: u64,
@@ -138,7 +138,7 @@ impl Deduction {
         self.outline
     }
 
-    /// Adds the next line, which the lines justify, and answers its number. An error comes only where memory is wanting, and then
+    /// Adds the next line, which the lines justify, and answers its number. An error comes only where memory runs out, and then
     /// nothing is changed.
     pub(crate) fn add(
         &mut self,

@@ -1,5 +1,5 @@
-//! Steps of several lines, by the rules; each answers the number of the last line. After an error, which comes only where memory is
-//! wanting, the lines from before are there, and maybe some of the new ones.
+//! Steps of several lines, by the rules; each answers the number of the last line. After an error, which comes only where memory runs
+//! out, the lines from before are there, and maybe some of the new ones.
 
 ghost use Rattle.std.specs.Prelude.{◌≡◌, ◌∷◌, ◌++◌, [], IfOk, OnOk};
 ghost use Rattle.hol_terms.specs.Terms.{Term, constant, falsehood as falsehood_constant, plain_term};

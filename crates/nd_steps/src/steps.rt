@@ -1,5 +1,5 @@
 //! The rules, as steps: each adds the next line, which the lines justify by the rule, under the given hypotheses, and answers its
-//! number. An error comes only where memory is wanting, and then nothing is changed.
+//! number. An error comes only where memory runs out, and then nothing is changed.
 
 ghost use Rattle.std.specs.Prelude.{◌≡◌, ◌+◌, ◌∷◌, [], IfOk, OnErr, OnOk};
 ghost use Rattle.hol_terms.specs.Terms.{Term, plain_term};
@@ -17,7 +17,7 @@ use hol_terms::terms::Tm;
 use nd_rules::lines::Why;
 use std::alloc::{AllocError, Global};
 
-/// The number behind this many, alone.
+/// The number after this many, alone.
 fn number_alone(alloc: Global, before: u64) -> Result<Hyps, AllocError>
     ensures { IfOk result (λ own. own ≡ (before + 1) ∷ []) }
 {

@@ -15,7 +15,7 @@ use std::alloc::{AllocError, Global};
 
 /// A derivation of the formula of an expansion proof, as it is given (Miller 1987, Andrews 2002): the long normal form is supposed to be
 /// false, which is refuted case by case, and then DEDUCT, RULEP and, where the formula isn't normal, LAMBDA. An error comes only where
-/// memory is wanting.
+/// memory runs out.
 pub fn translate(alloc: Global, accepted: &Accepted) -> Result<Outline, AllocError>
     ensures derivation { IfOk result (λ outline. IsDerivation outline accepted.now.fitted.formula) }
     ensures few { IfOk result (λ outline. length outline ≤ 64 * (node_count accepted.now.fitted.tree + 1) * 2 ^ node_count accepted.now.fitted.tree) }

@@ -84,7 +84,7 @@ pairs_further ls i low j old mid new h more = record {
   all = λ k from to own. elim (cases_lt k j) [ inl less ↦ more.kept (i, k) (h.all k from less own) | inr late ↦ more.all k late to own ];
 }
 
--- the pairs of the leaves up to i with those behind them
+-- the pairs of the leaves up to i with those after them
 pub record HasPairsUpTo (ls : List (Bool × Term)) (i : ℕ) (mating : List (ℕ × ℕ)) : Type 0 where
   pub good : All (IsGood ls) mating
   pub all : (a b : ℕ) → a ≤ i → a < b → IsGood ls (a, b) → Contains mating (a, b)

@@ -96,7 +96,7 @@ fn lightest(alloc: Global, task: &Task, weight: u64) -> Result<Option<Accepted>,
 
 /// An expansion proof of the formula with the least weight that a proof within the budget has: its tree weighs at most `weight`, its
 /// terms are over the formula's signature at the level and the variables that it selects, and its leaves have variables as heads. `None`
-/// exactly where no expansion proof is within the budget. An error comes only where memory is wanting.
+/// exactly where no expansion proof is within the budget. An error comes only where memory runs out.
 pub fn search(
     alloc: Global,
     formula: &Tm,

@@ -48,7 +48,7 @@ fn add_pair(fitted: &Fitted, i: u64, j: u64, mating: &mut Mating) -> Result<(), 
     mating.push(i, j)
 }
 
-/// The good pairs of a leaf with those behind it are added.
+/// The good pairs of a leaf with those after it are added.
 fn add_pairs(fitted: &Fitted, i: u64, mating: &mut Mating) -> Result<(), AllocError>
     requires first { 1 ≤ i }
     requires last { i ≤ length fitted.now.leaf_list }
@@ -85,7 +85,7 @@ fn spanning_mating(alloc: Global, fitted: &Fitted) -> Result<Option<Mating>, All
     }
 }
 
-/// Whether the fault is want of memory.
+/// Whether the fault is running out of memory.
 fn wants_memory(fault: &FitFault) -> bool
     ensures { IsTrue result ↔ (fault.now ≡ FitFault.Memory) }
 {
@@ -95,7 +95,7 @@ fn wants_memory(fault: &FitFault) -> bool
     }
 }
 
-/// Whether the fault of a check is want of memory.
+/// Whether the fault of a check is running out of memory.
 fn check_wants_memory(fault: &CheckFault) -> bool
     ensures { IsTrue result ↔ (fault.now ≡ CheckFault.Memory) }
 {

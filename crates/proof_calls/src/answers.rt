@@ -20,7 +20,7 @@ pub enum NoAnswer {
     Fit(FitFault),
     /// The pair of this number isn't good.
     BadPair(u64),
-    /// Memory is wanting.
+    /// Memory ran out.
     Memory,
 }
 
@@ -42,7 +42,7 @@ impl From<FitFault> for NoAnswer {
     }
 }
 
-/// The word with the numbers behind it.
+/// The word with the numbers after it.
 pub fn with_numbers(alloc: Global, word: &str, numbers: &[u64]) -> Answer {
     let mut answer = String::from_str(alloc, word)?;
     for number in numbers {

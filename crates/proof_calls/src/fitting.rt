@@ -41,14 +41,14 @@ pub fn kept(alloc: Global, arguments: &str) -> Answer {
     Ok(string_of(alloc, &write_proof(alloc, &proof)?)?)
 }
 
-/// The leaf behind its sign.
+/// The leaf after its sign.
 fn leaf_text(alloc: Global, leaf: LeafView<'_>) -> Answer {
     let sign = if leaf.positive { "+" } else { "-" };
     let formula = term_text(alloc, leaf.formula)?;
     Ok(format!(in alloc; " {sign}{formula}")?)
 }
 
-/// `(FORMULA TREE)`: how many leaves there are, and the formula of each behind its sign.
+/// `(FORMULA TREE)`: how many leaves there are, and the formula of each after its sign.
 pub fn leaves(alloc: Global, arguments: &str) -> Answer {
     let fitted = fitted(alloc, arguments)?;
     let mut answer = format!(in alloc; "{}", fitted.leaf_count())?;
@@ -95,7 +95,7 @@ pub fn weight(alloc: Global, arguments: &str) -> Answer {
     Ok(format!(in alloc; "{}", fitted.weight())?)
 }
 
-/// `(FORMULA TREE)`: how many variables are selected, and each of them behind the number of its node.
+/// `(FORMULA TREE)`: how many variables are selected, and each of them after the number of its node.
 pub fn selected(alloc: Global, arguments: &str) -> Answer {
     let fitted = fitted(alloc, arguments)?;
     let mut answer = format!(in alloc; "{}", fitted.selected_count())?;
@@ -109,7 +109,7 @@ pub fn selected(alloc: Global, arguments: &str) -> Answer {
     Ok(answer)
 }
 
-/// `(FORMULA TREE)`: how many occurrences there are, and the term of each behind the numbers of its first and its last node.
+/// `(FORMULA TREE)`: how many occurrences there are, and the term of each after the numbers of its first and its last node.
 pub fn occurrences(alloc: Global, arguments: &str) -> Answer {
     let fitted = fitted(alloc, arguments)?;
     let mut answer = format!(in alloc; "{}", fitted.occurrence_count())?;

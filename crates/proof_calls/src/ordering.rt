@@ -7,7 +7,7 @@ use dependency::faults::OrderFault;
 use dependency::orders::Order;
 use std::alloc::Global;
 
-/// `order` with the occurrences behind it.
+/// `order` with the occurrences after it.
 pub fn order_text(alloc: Global, order: &Order) -> Answer {
     let mut answer = String::from_str(alloc, "order")?;
     for i in 0..order.len() {
@@ -17,7 +17,7 @@ pub fn order_text(alloc: Global, order: &Order) -> Answer {
     Ok(answer)
 }
 
-/// `cycle` with the occurrences of the closed chain behind it.
+/// `cycle` with the occurrences of the closed chain after it.
 fn fault_text(alloc: Global, fault: &OrderFault) -> Answer {
     match fault {
         OrderFault::Memory => Err(NoAnswer::Memory),

@@ -25,7 +25,7 @@ fails_first (BadForm k) r f h = ap (λ r. r >>= f) h
 fails_first (IllTyped k) r f h = absurd h
 fails_first (LooseIndex k) r f h = absurd h
 
--- the pairs behind those that were read
+-- the pairs after those that were read
 abbrev pub behind : List (ℕ × ℕ) → Result (List (ℕ × ℕ)) ℕ → Result (List (ℕ × ℕ)) ℕ
 behind front r = r >>= λ ps. Ok (front ++ ps)
 
@@ -40,7 +40,7 @@ pairs_on old new p f fs whole e h w = go (pairs_at fs) ∙ sym (ap (λ r. behind
 pub pairs_failed : (e : TextFault) (front : List (ℕ × ℕ)) (f : Placed) (fs : PlacedAll) (whole : Result (List (ℕ × ℕ)) ℕ) → Fails e (pair_at f) → behind front (pairs_at (more_at f fs)) ≡ whole → Fails e whole
 pairs_failed e front f fs whole h w = subst (Fails e) w (fails_first e (pairs_at (more_at f fs)) (λ ps. Ok (front ++ ps)) (fails_first e (pair_at f) (λ q. pairs_at fs >>= λ qs. Ok (q ∷ qs)) h))
 
--- the branches behind those that were read
+-- the branches after those that were read
 abbrev pub before : List (Tm × Tree) → Result ExpansionBranches ℕ → Result ExpansionBranches ℕ
 before items r = r >>= λ bs. Ok (branches_from items bs)
 

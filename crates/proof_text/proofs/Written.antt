@@ -1,4 +1,4 @@
--- Pairs and the parts of a proof, written one behind the other.
+-- Pairs and the parts of a proof, written one after the other.
 use Rattle.std.proofs.Common.{◌≡◌, ℕ, ◌+◌, ◌<◌, ◌^◌, List, [], ◌∷◌, ◌++◌, length, take, get_or, codes, decimal, refl, sym, ◌∙◌, ap, subst, append-nil, append_assoc}
 use Rattle.std.proofs.lemmas.List.{take_more}
 use Rattle.core_text.specs.CoreForms.{pair_form, term_form}
@@ -43,7 +43,7 @@ joined entry n f t m =
     let left : ((((((((entry ++ codes "(PROOF ") ++ n) ++ 32 ∷ []) ++ f) ++ 32 ∷ []) ++ t) ++ 32 ∷ []) ++ m) ++ 41 ∷ [] ≡ entry ++ (40 ∷ (codes "PROOF" ++ (32 ∷ (n ++ (32 ∷ f ++ (32 ∷ t ++ (32 ∷ m ++ 41 ∷ []))))))) = simp append_assoc refl in
     left ∙ ap (λ l. entry ++ (40 ∷ (codes "PROOF" ++ (32 ∷ l)))) (sym (closed n f t m))
 
--- the parts of a proof, one behind the other
+-- the parts of a proof, one after the other
 pub proof_written : (p : Proof) (entry a b c d e g h i j : List ℕ) → a ≡ entry ++ codes "(PROOF " → b ≡ a ++ decimal 1 → c ≡ b ++ 32 ∷ [] → d ≡ c ++ written (term_form p.formula) → e ≡ d ++ 32 ∷ [] → g ≡ e ++ written (tree_form p.tree) → h ≡ g ++ 32 ∷ []
     → i ≡ h ++ written (mating_form p.mating) → j ≡ i ++ 41 ∷ [] → j ≡ entry ++ written (proof_form p)
 proof_written p entry a b c d e g h i j ea eb ec ed ee eg eh ei ej =

@@ -69,7 +69,7 @@ abbrev pub mating_at : Placed → Result (List (ℕ × ℕ)) ℕ
 mating_at (list_at ps k) = pairs_at ps
 mating_at p = Err (place_of p)
 
--- the members of the form of a proof text behind its first word
+-- the members of the form of a proof text after its first word
 pub record Parts : Type 0 where
   pub version : Placed
   pub formula : Placed
@@ -116,7 +116,7 @@ proof_judged p q = judged_at p.formula q.formula >>= λ s. tree_judged p.tree q.
 abbrev pub proof_at : Placed → Result Proof TextFault
 proof_at f = with_fault (λ k. BadForm k) (parts_at f) >>= λ q. with_fault (λ k. BadForm k) (proof_in q) >>= λ p. proof_judged p q >>= λ done. Ok p
 
--- the fault is want of memory, or the first one of the bytes: what keeps them from being a text of one form, or the first fault of
+-- the fault is running out of memory, or the first one of the bytes: what keeps them from being a text of one form, or the first fault of
 -- that form
 abbrev pub IsFirstFault : List ℕ → TextFault → Type 0
 IsFirstFault bytes e = IsFaultUnlessMemory e (form_fault bytes) ⊎ ((f : Placed) × IsPlacedText bytes f × IsFaultUnlessMemory e (fault_in (proof_at f)))

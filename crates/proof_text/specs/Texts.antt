@@ -66,7 +66,7 @@ pub record HasProofNames (p : Proof) : Type 0 where
   pub formula : HasNames p.formula
   pub tree : TreeHasNames p.tree
 
--- The bytes are what is written for this formula, tree and mating: their form with one space between members, none behind ( and none
+-- The bytes are what is written for this formula, tree and mating: their form with one space between members, none after ( and none
 -- before ), and LF at the end. All names are names, and the numbers of the mating have 64 bits.
 pub record IsWrittenProof (bytes : List ℕ) (p : Proof) : Type 0 where
   pub same : bytes ≡ written (proof_form p) ++ 10 ∷ []

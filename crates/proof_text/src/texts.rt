@@ -31,7 +31,7 @@ pub struct ProofText {
     pub mating: Mating,
 }
 
-/// The members of the form of a proof text behind its first word.
+/// The members of the form of a proof text after its first word.
 #[derive(Clone, Copy)]
 pub struct TextParts<'a> {
     pub version: &'a Sexp,

@@ -64,7 +64,7 @@ fn append_tree(alloc: Global, out: &mut Text, tree: &Tree) -> Result<(), AllocEr
     }
 }
 
-/// Adds branches at the end of the text, each behind a space.
+/// Adds branches at the end of the text, each after a space.
 #[cycle(append_tree)]
 fn append_branches(alloc: Global, out: &mut Text, branches: &Branches) -> Result<(), AllocError>
     ensures names { IfOk result (λ _. BranchesHaveNames (plain_branches branches.now)) }
@@ -94,7 +94,7 @@ fn append_pair(alloc: Global, out: &mut Text, pair: (u64, u64)) -> Result<(), Al
     out.push(b')')
 }
 
-/// Adds pairs at the end of the text, each behind a space.
+/// Adds pairs at the end of the text, each after a space.
 fn append_pairs(alloc: Global, out: &mut Text, pairs: &[(u64, u64)]) -> Result<(), AllocError>
     ensures numbers { IfOk result (λ _. AreWellSpelled (pair_forms pairs.now)) }
     ensures text { IfOk result (λ _. out.new ≡ out.old ++ written_others (pair_forms pairs.now)) }
@@ -137,9 +137,9 @@ fn append_proof(alloc: Global, out: &mut Text, proof: &ProofText) -> Result<(), 
     Ok(())
 }
 
-/// The text of a proof, with one space between members, none behind `(` and none before `)`, and LF at the end. Where the formula is
+/// The text of a proof, with one space between members, none after `(` and none before `)`, and LF at the end. Where the formula is
 /// a formula and the terms have types, it is read again as that proof, within the limits of reading. An error comes only where memory
-/// is wanting.
+/// runs out.
 pub fn write_proof(alloc: Global, proof: &ProofText) -> Result<Text, AllocError>
     ensures read { IsTyped (plain_proof proof.now) → nesting (proof_form (plain_proof proof.now)) ≤ 5000 → IfOk result (λ text. IsProofText text (plain_proof proof.now)) }
     ensures text { IfOk result (λ text. text ≡ written (proof_form (plain_proof proof.now)) ++ 10 ∷ []) }

@@ -53,7 +53,7 @@ module _ (p : Bool) (line : ℕ) (place here next : Place) (u : Term) (t : Expan
         all_joined HasKey found.0 one found.3 (ap (λ (o : Open). (node_of o).place.occurrences) is, tt),
       )
 
-  -- and none of those of the branches behind it
+  -- and none of those of the branches after it
   pub rest_unfound : AllByRecursion (IsOutside next.occurrences (branch_occurrence_total bs)) new
   rest_unfound =
       let number : here.occurrences ≡ place.occurrences + 1 = ap (λ (q : Place). q.occurrences) here_is in

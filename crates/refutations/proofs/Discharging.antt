@@ -27,7 +27,7 @@ OwesAlways old new duties count line duties' line' =
     (hyps more : List ℕ) (kept added : List Duty) → duties ≡ kept ++ added → count ≡ length kept → AreDuties old hyps added more → AreAssumptions old more → Proves old line more (constant falsehood)
     → Owes old new hyps kept added duties' line'
 
--- a list that goes on behind its front has its last element there
+-- a list that goes on after its front has its last element there
 last_behind : (kept left before : List Duty) (d : Duty) → before ++ d ∷ [] ≡ kept ++ left → length kept ≤ length before → (first : List Duty) × (left ≡ first ++ d ∷ []) × (before ≡ kept ++ first)
 last_behind [] left before d e most = (before, sym e, refl)
 last_behind (k ∷ kept) left [] d e most = absurd (omega (arith, most))

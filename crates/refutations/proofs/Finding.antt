@@ -34,7 +34,7 @@ use Rattle.refutations.proofs.Waiting.{found_more, is_waiting_from}
 abbrev pub HasKey : ℕ × Front → Type 0
 HasKey entry = entry.1.node.place.occurrences ≡ entry.0
 
--- the entry's number isn't among so many behind the first
+-- the entry's number isn't among so many after the first
 abbrev pub IsOutside : ℕ → ℕ → ℕ × Front → Type 0
 IsOutside first many entry = (entry.0 ≤ first) ⊎ (first + many < entry.0)
 
@@ -47,7 +47,7 @@ le_or_lt (suc a) (suc b) = elim (le_or_lt a b) [ inl low ↦ inl (omega (arith, 
 within_at : (k first many : ℕ) → first ≤ k → k < first + many → within k first many ≡ 1
 within_at k first many low high = grind (arith, nat_tests)
 
--- a number is among those behind the first, or it isn't
+-- a number is among those after the first, or it isn't
 outside_or_between : (k first many : ℕ) → ((k ≤ first) ⊎ (first + many < k)) ⊎ ((first < k) × (k ≤ first + many))
 outside_or_between k first many = elim (le_or_lt k first) [
   | inl low ↦ inl (inl low)

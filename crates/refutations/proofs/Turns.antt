@@ -104,7 +104,7 @@ module _ (g : AcceptedProof) (accepted : IsAccepted g) where
       let number = occurrence_within (occurrences_of g.fitted.tree) e o is in
       where_contained g.order e (accepted.ordered.all e number.0 number.1)
 
-  -- those counted behind the occurrence of an open term lie below it
+  -- those counted after the occurrence of an open term lie below it
   below_term : (lines : List DeductionLine) (hyps : List ℕ) (u : Term) (n : OpenNode) (e : ℕ) → HasTermLine g lines hyps u n → n.place.occurrences < e → e ≤ n.place.occurrences + occurrence_total n.tree
       → Below (occurrences_of g.fitted.tree) n.place.occurrences e
   below_term lines hyps u n e h low high =

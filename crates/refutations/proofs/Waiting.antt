@@ -29,7 +29,7 @@ none_later [] (suc done) e h = refl
 none_later (x ∷ order) zero e h = rw (other x e h.0, none_later order zero e h.1) refl
 none_later (x ∷ order) (suc done) e h = none_later order done e h.1
 
--- those that wait are the occurrence whose turn it is and those behind it
+-- those that wait are the occurrence whose turn it is and those after it
 waits_here : (order : List ℕ) (done e k : ℕ) → slice_get order done ≡ Some e → is_waiting order done k ≡ ((e == k) || is_waiting order (suc done) k)
 waits_here [] done e k here = absurd cc
 waits_here (x ∷ order) zero e k here = let same : x ≡ e = cc in ap (λ y. (y == k) || is_waiting order zero k) same

@@ -34,7 +34,7 @@ pub record IsNew (lines : List DeductionLine) (hyps : List ℕ) (opens : List Op
   pub unassumed : IsUnassumed lines hyps selection
   pub unsaid : AllByRecursion (IsUnsaid lines selection) opens
 
--- an occurrence stands in the order at this place or behind it
+-- an occurrence stands in the order at this place or after it
 abbrev pub HasTurnFrom : List ℕ → ℕ → ℕ → Type 0
 HasTurnFrom order done e = (i : ℕ) → slice_get order i ≡ Some e → done ≤ i
 

@@ -4,7 +4,7 @@ use Rattle.std.specs.List.{list_any}
 use Rattle.refutations.specs.declared.nodes.Front.{Front}
 use Rattle.refutations.specs.Opens.{Open, open_term}
 
--- the occurrence stands in the order at this place or behind it
+-- the occurrence stands in the order at this place or after it
 abbrev pub is_waiting : List ℕ → ℕ → ℕ → Bool
 is_waiting order done e = list_any (λ k. k == e) (drop done order)
 

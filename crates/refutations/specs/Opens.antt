@@ -124,7 +124,7 @@ abbrev mutual
 abbrev pub place_below : Place → Place
 place_below p = record { node = p.node + 1; leaves = p.leaves; occurrences = p.occurrences }
 
--- the place behind a tree
+-- the place after a tree
 abbrev pub place_past : ExpansionTree → Place → Place
 place_past t p = record { node = p.node + node_count t; leaves = p.leaves + leaf_total t; occurrences = p.occurrences + occurrence_total t }
 

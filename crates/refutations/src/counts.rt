@@ -9,7 +9,7 @@ use expansion_tree::trees::{Branches, Tree};
 use hol_terms::indices::raised_index;
 use std::alloc::AllocError;
 
-/// Moves a place behind a tree.
+/// Moves a place after a tree.
 #[cycle(pass)]
 fn pass(tree: &Tree, place: &mut Place) -> Result<(), AllocError>
     ensures { OnOk result (place.new ≡ plain_past (plain_tree tree.now) place.old) }
@@ -30,7 +30,7 @@ fn pass(tree: &Tree, place: &mut Place) -> Result<(), AllocError>
     Ok(())
 }
 
-/// Moves a place behind branches.
+/// Moves a place after branches.
 #[cycle(pass)]
 fn pass_branches(branches: &Branches, place: &mut Place) -> Result<(), AllocError>
     ensures nodes { OnOk result (place.new.node ≡ place.old.node + branch_node_count (plain_branches branches.now)) }
@@ -54,7 +54,7 @@ pub fn place_below(place: Place) -> Result<Place, AllocError>
     Ok(Place { node, ..place })
 }
 
-/// The place behind a tree.
+/// The place after a tree.
 pub fn place_past(tree: &Tree, place: Place) -> Result<Place, AllocError>
     ensures { IfOk result (λ p. p ≡ plain_past (plain_tree tree.now) place) }
 {

@@ -1,5 +1,5 @@
 //! Steps whose lines rest on no more hypotheses than they need; each answers the number of its last line. After an error, which comes
-//! only where memory is wanting, some of the lines may be there.
+//! only where memory runs out, some of the lines may be there.
 
 ghost use Rattle.std.specs.Prelude.{◌≡◌, ◌∷◌, ℕ, [], IfOk, IsFalse, IsSome, List, OnOk, Some};
 ghost use Rattle.std.specs.Option.{option_map};

@@ -309,7 +309,7 @@ fn refute_denial(
 }
 
 /// Supposes that the long normal form of an expansion proof's formula is false, and derives FALSEHOOD (Miller 1987): answers the line of
-/// the hypothesis and that of FALSEHOOD. The lines from before stay. An error comes only where memory is wanting; some of the lines may be
+/// the hypothesis and that of FALSEHOOD. The lines from before stay. An error comes only where memory runs out; some of the lines may be
 /// there then.
 pub fn refute(
     alloc: Global,

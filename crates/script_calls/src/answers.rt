@@ -18,7 +18,7 @@ pub enum NoAnswer {
     Text(TextFault),
     /// What was printed is no formula text.
     Raw(RawFault),
-    /// Memory is wanting.
+    /// Memory ran out.
     Memory,
 }
 

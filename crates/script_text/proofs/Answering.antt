@@ -26,7 +26,7 @@ pub numerals_missing : (k : CommandWord) (ts : List Token) (t : Token) (rest : L
 numerals_missing k ts t rest last fault e is h =
     subst (λ (l : List Token). IsTokensFault l last fault) (sym e) (known_fault k t rest last fault is (line_fault k t rest last fault is (h (tail_of k))))
 
--- what stands behind the numerals isn't what the command wants
+-- what stands after the numerals isn't what the command wants
 pub tail_missing : (k : CommandWord) (ts : List Token) (t : Token) (ns : List ℕ) (rest back : List Token) (last : ℕ) (fault : CommandFault) → ts ≡ t ∷ rest → sign_of t ≡ word (word_text k)
     → Leads (map number ns) back rest → length ns ≡ numeral_count k → IsFaultIn (HasTail (tail_of k)) back last fault → IsTokensFault ts last fault
 tail_missing k ts t ns rest back last fault e is leads long h =
@@ -71,7 +71,7 @@ token_fault line (raw_fault.TooDeep depth) h = absurd h
 token_fault line (raw_fault.Unexpected place) h = absurd h
 token_fault line raw_fault.Memory h = tt
 
--- the fault of a text is no want of memory in it
+-- the fault of a text is no running out of memory in it
 no_memory_in : (fault : RawFault) → of_text fault ≢ InPhrase raw_fault.Memory
 no_memory_in raw_fault.NotUtf8 e = cc
 no_memory_in (raw_fault.BadCharacter place) e = cc

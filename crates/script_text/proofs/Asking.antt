@@ -1,4 +1,4 @@
--- The commands as words, numerals and what stands behind them.
+-- The commands as words, numerals and what stands after them.
 use Rattle.std.proofs.Common.{◌≡◌, ◌≢◌, ℕ, List, [], ◌∷◌, ◌++◌, length, map, refl, sym, ◌∙◌, ap, ap₂, subst, arith, inl, inr}
 use Rattle.tps_reader.specs.Raws.{RawFormula}
 use Rattle.tps_reader.specs.Tokens.{Sign, number, word, Token, sign_of, tokens_from}
@@ -102,7 +102,7 @@ named_same : (v w : List ℕ) (ts : List Token) → Leads (word v ∷ []) [] ts 
 named_same v w [] g h = absurd g
 named_same v w (t ∷ ts) g h = same_word v w (sign_of t) g.0 h.0
 
--- the word, the numerals and what stands behind them ask for one thing
+-- the word, the numerals and what stands after them ask for one thing
 pub one_asked : (k : CommandWord) (ns : List ℕ) (ts : List Token) (r q : ScriptRequest) → Asks k ns ts r → Asks k ns ts q → q ≡ r
 one_asked verb.Prove ns ts r q g h =
     h.4 ∙ ap₂ say_prove (same_one h.0 g.0 (sym h.2 ∙ g.2)) (one_read ts ts g.1 h.1 refl g.3 h.3) ∙ sym g.4
@@ -146,7 +146,7 @@ one_asked verb.Rulep ns ts r q g h =
 one_asked verb.Undo ns ts r q g h = h.2 ∙ sym g.2
 one_asked verb.Done ns ts r q g h = h.2 ∙ sym g.2
 
--- a command's word, and what is behind it
+-- a command's word, and what is after it
 line_from : (k : CommandWord) (t : Token) (ts : List Token) → sign_of t ≡ word (word_text k) → IsLine (t ∷ ts) → HasBody (numeral_count k) (tail_of k) ts
 line_from k t ts e h = go h.1
   where
@@ -172,7 +172,7 @@ line_fault k t ts last fault e h =
     } in
     fault_map K IsLine ts (t ∷ ts) last last (λ place leaves. leaves_behind IsLine K (t ∷ []) ts follows last place leaves) fault h
 
--- the numerals, and what is behind them
+-- the numerals, and what is after them
 pub body_fault : (k : CommandWord) (ns : List ℕ) (rest ts : List Token) (last : ℕ) (fault : CommandFault) → Leads (map number ns) rest ts → length ns ≡ numeral_count k → IsFaultIn (HasTail (tail_of k)) rest last fault
     → IsFaultIn (HasBody (numeral_count k) (tail_of k)) ts last fault
 body_fault k ns rest ts last fault h long f =
@@ -190,7 +190,7 @@ body_fault k ns rest ts last fault h long f =
     } in
     fault_map K L rest ts last last (λ place leaves. subst (λ (l : List Token). LeavesFirst L l last place) (sym p.parts) (leaves_behind L K p.front rest follows last place leaves)) fault f
 
--- a fault behind a command's word
+-- a fault after a command's word
 pub known_fault : (k : CommandWord) (t : Token) (ts : List Token) (last : ℕ) (fault : CommandFault) → sign_of t ≡ word (word_text k) → IsFaultIn IsLine (t ∷ ts) last fault → IsTokensFault (t ∷ ts) last fault
 known_fault k t ts last (InPhrase raw_fault.NotUtf8) e h = h
 known_fault k t ts last (InPhrase (raw_fault.BadCharacter place)) e h = h

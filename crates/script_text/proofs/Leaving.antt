@@ -31,7 +31,7 @@ fault_map K L xs ts last end f (InPhrase raw_fault.Memory) h = h
 fault_map K L xs ts last end f Unknown h = h
 fault_map K L xs ts last end f Memory h = h
 
--- Behind these tokens, the one language has what the other has, among the lists that begin as the rest does.
+-- After these tokens, the one language has what the other has, among the lists that begin as the rest does.
 pub record Follows (L K : List Token → Type 0) (front rest : List Token) : Type 0 where
   pub to : (ts : List Token) → K ts → L (front ++ ts)
   pub from : L (front ++ rest) → K rest
@@ -40,7 +40,7 @@ pub record Follows (L K : List Token → Type 0) (front rest : List Token) : Typ
 pub begins_behind : (L K : List Token → Type 0) (front ts : List Token) → ((xs : List Token) → K xs → L (front ++ xs)) → Begins K ts → Begins L (front ++ ts)
 begins_behind L K front ts to h = (h.0, subst L (sym (append_assoc front ts h.0)) (to (ts ++ h.0) h.1))
 
--- leaving behind these tokens is leaving
+-- leaving after these tokens is leaving
 pub leaves_behind : (L K : List Token → Type 0) (front rest : List Token) → Follows L K front rest → (last place : ℕ) → LeavesFirst K rest last place → LeavesFirst L (front ++ rest) last place
 leaves_behind L K front rest f last place (inl h) = inl (record {
   before = front ++ h.before;
@@ -60,6 +60,6 @@ leaves_behind L K front rest f last place (inr h) = inr (h.0, record { begins = 
 pub stops_first : (L : List Token → Type 0) (t : Token) (rest : List Token) → Begins L [] → ((more : List Token) → L (t ∷ more) → ⊥) → Stops L (t ∷ rest) (token_place t)
 stops_first L t rest b s = record { before = []; t = t; after = rest; parts = refl; at = refl; begins = b; stops = λ m. s m.0 m.1 }
 
--- a token that none may be behind others
+-- a token that none may be after others
 pub stops_behind : (L : List Token → Type 0) (front rest : List Token) (t : Token) → Begins L front → ((more : List Token) → L (front ++ (t ∷ more)) → ⊥) → Stops L (front ++ (t ∷ rest)) (token_place t)
 stops_behind L front rest t b s = record { before = front; t = t; after = rest; parts = refl; at = refl; begins = b; stops = λ m. s m.0 (subst L (append_assoc front (t ∷ []) m.0) m.1) }

@@ -21,7 +21,7 @@ lexeme_at ls at lexeme inside is =
     drop-map plain_token at ls ∙ ap (map plain_token) (drop_more ls at lexeme inside) ∙ ap (λ (l : Lexeme). plain_token l ∷ map plain_token (drop (at + 1) ls)) (sym is)
     ∙ ap (λ (l : List Token). plain_token lexeme ∷ l) (sym (drop-map plain_token (at + 1) ls))
 
--- the tokens behind one
+-- the tokens after one
 pub drop_next : (at : ℕ) (ts : List Token) (t : Token) (rest : List Token) → drop at ts ≡ t ∷ rest → (drop (at + 1) ts ≡ rest) × (at < length ts)
 drop_next zero [] t rest e = cc
 drop_next zero (u ∷ ts) t rest e = let tails : ts ≡ rest = cc in (tails, omega arith)

@@ -1,4 +1,4 @@
--- What is left behind the word of a command and its numerals, and which of it is no such.
+-- What is left after the word of a command and its numerals, and which of it is no such.
 use Rattle.std.proofs.Common.{◌≡◌, ◌⊎◌, ℕ, zero, suc, ◌+◌, ◌-◌, ◌<◌, ◌≤◌, Bool, true, false, Some, None, List, [], ◌∷◌, ◌++◌, length, map, drop, take, get_or, refl, sym, ◌∙◌, ap, ap₂, subst, append_assoc, arith, inl, inr}
 use Rattle.std.specs.List.Sorted.{IsStrictlyIncreasing}
 use Rattle.std.proofs.lemmas.List.{append-nil, get_or_append_left, length-append, length-drop, map-append, take-append-drop}
@@ -285,7 +285,7 @@ rising_at ns n at ts t rest last h e is ordered low =
     let heads : t ≡ f.0 = cc in
     rising_fault ns n t rest ts last (subst (λ (l : List Token). Leads (map number ns) l ts) e h) (ap sign_of heads ∙ f.3) ordered low
 
--- the faults of a phrase behind numerals
+-- the faults of a phrase after numerals
 pub numbered_fails : (rising : Bool) (ns : List ℕ) (rest ts : List Token) (last : ℕ) (fault : CommandFault) → Leads (map number ns) rest ts → InOrder rising ns → BeginsNoNumber rest → IsFaultIn (HasTail one_phrase) rest last fault
     → IsFaultIn (HasTail (numbered rising)) ts last fault
 numbered_fails rising ns rest ts last fault h ordered none f =

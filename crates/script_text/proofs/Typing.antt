@@ -173,7 +173,7 @@ closed_end : (ts : List Token) → whole_in (read_on ts (Some reading.Closed)) �
 closed_end [] h = refl
 closed_end (t ∷ ts) h = absurd (whole_none ts None refl h)
 
--- the tokens behind a name
+-- the tokens after a name
 record Worded (ts : List Token) : Type 0 where
   written : Written
   ty : Option SimpleType

@@ -31,7 +31,7 @@ IsVariableOf ts v =
     (s : Spot) × (name : List ℕ) × (written : Written) × (spelled (named s name written) ≡ tokens_from (first_place ts) ts)
     × Says (named s name written) v
 
--- The word, the numerals that always stand behind it, and then the tokens ask for this.
+-- The word, the numerals that always stand after it, and then the tokens ask for this.
 abbrev pub Asks : CommandWord → List ℕ → List Token → ScriptRequest → Type 0
 Asks verb.Prove ns ts r = (n : ℕ) × (v : RawFormula) × (ns ≡ n ∷ []) × IsPhraseOf ts v × (r ≡ say_prove n v)
 Asks verb.Plan ns ts r =
@@ -55,7 +55,7 @@ Asks verb.Rulep ns ts r =
 Asks verb.Undo ns ts r = (ns ≡ []) × (ts ≡ []) × (r ≡ say_undo)
 Asks verb.Done ns ts r = (ns ≡ []) × (ts ≡ []) × (r ≡ say_done)
 
--- a command's line is its word, numerals, and what the command has behind them
+-- a command's line is its word, numerals, and what the command has after them
 abbrev pub IsCommandOf : CommandWord → List Token → ScriptRequest → Type 0
 IsCommandOf k ts r = (ns : List ℕ) × (rest : List Token) × Leads (word (word_text k) ∷ map number ns) rest ts × Asks k ns rest r
 

@@ -2,7 +2,7 @@
 use Rattle.std.specs.Prelude.{◌≡◌, ◌⊎◌, ℕ, List, [], ◌∷◌, ◌++◌}
 use Rattle.tps_reader.specs.Tokens.{Token, token_place}
 
--- the tokens and some others behind them belong to the language
+-- the tokens and some others after them belong to the language
 abbrev pub Begins : (List Token → Type 0) → List Token → Type 0
 Begins L ts = (more : List Token) × L (ts ++ more)
 

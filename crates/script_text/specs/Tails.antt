@@ -1,4 +1,4 @@
--- What stands behind the word of a command and the numerals that always follow it, and how that is left.
+-- What stands after the word of a command and the numerals that always follow it, and how that is left.
 use Rattle.std.specs.Prelude.{◌≡◌, ℕ, ◌+◌, ◌^◌, ◌<◌, ◌≤◌, Bool, true, false, List, [], ◌∷◌, ◌++◌, length, map, Option, Some, None}
 use Rattle.std.specs.List.Sorted.{IsStrictlyIncreasing}
 use Rattle.hol_terms.specs.Names.{IsName}
@@ -107,7 +107,7 @@ abbrev pub SemicolonFirst : List Token → Type 0
 SemicolonFirst [] = Unit {0}
 SemicolonFirst (t ∷ ts) = sign_of t ≡ semicolon
 
--- the fault of a text that is the line or a part of it: want of memory is no fault of the text
+-- the fault of a text that is the line or a part of it: running out of memory is no fault of the text
 abbrev pub of_text : RawFault → CommandFault
 of_text raw_fault.NotUtf8 = InPhrase raw_fault.NotUtf8
 of_text (raw_fault.BadCharacter place) = InPhrase (raw_fault.BadCharacter place)

@@ -40,7 +40,7 @@ command_word semicolon = None
 command_word (number n) = None
 command_word (word w) = word_of w
 
--- how many numerals always stand behind the word
+-- how many numerals always stand after the word
 abbrev pub numeral_count : CommandWord → ℕ
 numeral_count verb.Prove = 1
 numeral_count verb.Plan = 1

@@ -1,4 +1,4 @@
-//! The commands, each behind its word and its numerals.
+//! The commands, each after its word and its numerals.
 
 ghost use Rattle.std.specs.Prelude.{[], ◌≡◌, IfErr, IfOk, List, length, ℕ};
 ghost use Rattle.script_text.specs.Commands.{plain_script};
@@ -226,7 +226,7 @@ fn done(lexemes: &[Lexeme]) -> Result<ScriptCommand, CommandFault>
     Ok(ScriptCommand::Done)
 }
 
-/// The command with this word and these numerals behind it, of which the tokens are the rest.
+/// The command with this word and these numerals after it, of which the tokens are the rest.
 pub fn arguments(
     alloc: Global,
     word: CommandWord,

@@ -14,7 +14,7 @@ pub enum CommandFault {
     Raw(RawFault),
     /// The first token isn't the word of a command.
     Unknown,
-    /// Memory is wanting.
+    /// Memory ran out.
     Memory,
 }
 

@@ -1,4 +1,4 @@
-//! Numerals behind the word of a command.
+//! Numerals after the word of a command.
 
 ghost use Rattle.std.specs.Prelude.{◌≡◌, ◌≤◌, IfErr, IfOk, true, ℕ, drop, length, map, vec_len};
 ghost use Rattle.std.specs.List.Sorted.{IsStrictlyIncreasing};

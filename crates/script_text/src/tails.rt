@@ -1,4 +1,4 @@
-//! What stands behind the word of a command and its numerals.
+//! What stands after the word of a command and its numerals.
 
 ghost use Rattle.std.specs.Prelude.{[], ◌≡◌, ◌↔◌, ◌<◌, ◌≤◌, ◌++◌, ◌∷◌, IsTrue, false, true, IfErr, IfOk, List, drop, length, map, take, ℕ, ◌^◌};
 ghost use Rattle.std.specs.List.Sorted.{IsStrictlyIncreasing};

@@ -133,7 +133,7 @@ fn after_within(around: u64, filled: bool, symbol: &Symbol) -> Result<Option<Rea
     }
 }
 
-/// One token more behind a name.
+/// One token more after a name.
 fn after_bare(symbol: &Symbol) -> Option<Reading>
     ensures { result ≡ after_bare (plain_sign symbol.now) }
 {

@@ -24,7 +24,7 @@ pub enum CommandWord {
 }
 
 impl CommandWord {
-    /// How many numerals always stand behind the word.
+    /// How many numerals always stand after the word.
     pub fn numerals(self) -> usize
         ensures { result ≡ numeral_count self }
     {

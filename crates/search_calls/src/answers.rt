@@ -17,7 +17,7 @@ pub enum NoAnswer {
     Arguments,
     /// The arguments are no form, term or number.
     Text(TextFault),
-    /// Memory is wanting.
+    /// Memory ran out.
     Memory,
 }
 

@@ -17,7 +17,7 @@ pub enum NoAnswer {
     NotTyped,
     /// The arguments are no form, term, type, name or number.
     Text(TextFault),
-    /// Memory is wanting.
+    /// Memory ran out.
     Memory,
 }
 

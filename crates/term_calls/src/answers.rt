@@ -19,7 +19,7 @@ pub enum NoAnswer {
     NotTyped,
     /// The arguments are no form, type, term or name.
     Text(TextFault),
-    /// Memory is wanting.
+    /// Memory ran out.
     Memory,
 }
 

@@ -63,7 +63,7 @@ pub(crate) fn all_abstracted(alloc: Global, ty: &Ty, bodies: Vec<Tm>) -> Result<
     Ok(terms)
 }
 
-/// The function applied to each of the arguments, behind the given terms.
+/// The function applied to each of the arguments, after the given terms.
 fn add_applications(
     alloc: Global,
     function: &Tm,

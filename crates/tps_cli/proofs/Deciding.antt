@@ -90,7 +90,7 @@ words_one (Generate n) (Generate m) words (w, e, number, within) (v, f, number',
     let same : w ≡ v = cc in
     let numbers : Some n ≡ Some m = sym number ∙ ap numeral_of same ∙ number' in cc
 
--- words behind `prove` that set no budget are those of no command
+-- words after `prove` that set no budget are those of no command
 pub no_budget :
     (options : List (List ℕ)) → ((b : Budget) → AreOptions b options → ⊥) → (c : Command) → AreWordsOf c (codes "prove" ∷ options) → ⊥
 no_budget options none (Prove b) (os, e, set, within) =

@@ -5,7 +5,7 @@ use Rattle.exp_check.specs.Accepted.{AcceptedProof, IsAccepted, proof_of}
 use Rattle.tps_gen.specs.Chains.{HasFigures}
 use Rattle.tps_cli.specs.Generates.{IsSummary, told}
 
--- a list, behind which stands the rest, was appended to
+-- a list, after which stands the rest, was appended to
 further : (old new more rest : List ℕ) → new ≡ old ++ more → new ++ rest ≡ old ++ (more ++ rest)
 further old new more rest e = ap (λ l. l ++ rest) e ∙ append_assoc old more rest
 

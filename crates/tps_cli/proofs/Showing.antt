@@ -15,7 +15,7 @@ pub has_conclusion : (lines : List DeductionLine) → 0 < length lines → (form
 has_conclusion [] some = absurd (omega (arith, some))
 has_conclusion (l ∷ ls) some = let last = last_behind l ls in (last.0.formula, (last.0, last.1, refl))
 
--- the lines from one on are that one and those behind it
+-- the lines from one on are that one and those after it
 pub printed_at : (lines : List DeductionLine) (i : ℕ) (l : DeductionLine) → slice_get lines i ≡ Some l → printed_lines (drop i lines) ≡ printed_line l ++ 10 ∷ printed_lines (drop (suc i) lines)
 printed_at [] i l e = cc
 printed_at (m ∷ lines) zero l e = let same : m ≡ l = cc in ap (λ (k : DeductionLine). printed_line k ++ 10 ∷ printed_lines lines) same

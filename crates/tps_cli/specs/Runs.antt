@@ -24,7 +24,7 @@ pub record IsWholeInput (left left' : Option (List ℕ)) (faults faults' : ℕ) 
   pub within : length bytes ≤ 1048576
   pub calm : faults' ≡ faults
 
--- what was read of the input, where these were left and counted before and behind it: all of it where the command reads it, and nothing
+-- what was read of the input, where these were left and counted before and after it: all of it where the command reads it, and nothing
 -- where it doesn't
 abbrev pub WasRead : Command → Option (List ℕ) → Option (List ℕ) → ℕ → ℕ → List ℕ → Type 0
 WasRead c left left' faults faults' bytes =
@@ -44,7 +44,7 @@ NothingWritten old new = (new.written ≡ old.written) × (new.write_faults ≡ 
 abbrev pub Finished : Command → Ends → Ends → Status → Type 0
 Finished c old new status = (out : List ℕ) × Answered c old new status out × Appends old.written new.written out × (new.write_faults ≡ old.write_faults)
 
--- a front of the output was written, and the sink failed
+-- a prefix of the output was written, and the sink failed
 abbrev pub CutShort : Command → Ends → Ends → Status → Type 0
 CutShort c old new status = (out : List ℕ) × Answered c old new status out × AppendsFront old.written new.written out × Rose old.write_faults new.write_faults
 

@@ -7,7 +7,7 @@ use Rattle.tps_cli.specs.Derivations.{HoldsDerivation, IsRefused, IsNoDerivation
 use Rattle.tps_cli.specs.declared.status.Status.{Status}
 use Rattle.tps_cli.specs.declared.status.Status.TheVariants.{Done, No, Words, BadText, TooLong, ReadFault, WriteFault, Memory}
 
--- each line as it is printed, with LF behind it
+-- each line as it is printed, with LF after it
 abbrev pub printed_lines : List DeductionLine → List ℕ
 printed_lines [] = []
 printed_lines (l ∷ ls) = printed_line l ++ 10 ∷ printed_lines ls

@@ -71,7 +71,7 @@ fn proving(options: &[String]) -> Option<Command>
     }
 }
 
-/// The command of a word and those behind it.
+/// The command of a word and those after it.
 fn command_with(word: &str, others: &[String]) -> Option<Command>
     ensures { MatchOption result ((c : Command) → AreWordsOf c (word.now ∷ map string_bytes others.now) → ⊥) (λ c. AreWordsOf c (word.now ∷ map string_bytes others.now)) }
 {

@@ -23,7 +23,7 @@ pub fn read(alloc: Global, bytes: &[u8]) -> Result<Option<Outline>, AllocError>
     }
 }
 
-/// The line that says why an outline is no derivation. An error comes only where memory is wanting, or was.
+/// The line that says why an outline is no derivation. An error comes only where memory runs out, or ran out before.
 pub fn refused(alloc: Global, fault: &VerifyFault) -> Result<Text, AllocError>
     ensures named { OnOk result (fault.now ≢ VerifyFault.Memory) }
     ensures text { IfOk result (λ text. text ≡ fault_line fault.now ++ 10 ∷ []) }

@@ -25,7 +25,7 @@ use std::process::ExitCode;
 use tps_io::sink::StdSink;
 use tps_io::source::StdSource;
 
-/// The exit code where memory is wanting for the words.
+/// The exit code where memory runs out for the words.
 const NO_MEMORY: u8 = 7;
 
 /// The exit code where the system refuses the words.

@@ -25,7 +25,7 @@ use tps_reader::readers::read_raw;
 use type_infer::inference::{InferFault, infer};
 use type_infer::laws::annotations;
 
-/// Whether the fault of a text is want of memory.
+/// Whether the fault of a text is running out of memory.
 fn text_wants_memory(fault: RawFault) -> bool
     ensures { IsTrue result ↔ (fault ≡ RawFault.Memory) }
 {
@@ -48,7 +48,7 @@ fn phrase(alloc: Global, bytes: &[u8]) -> Result<Option<Raw>, AllocError>
     }
 }
 
-/// Whether the fault is want of memory.
+/// Whether the fault is running out of memory.
 fn wants_memory(fault: &InferFault) -> bool
     ensures { IsTrue result ↔ (fault.now ≡ InferFault.Memory) }
 {

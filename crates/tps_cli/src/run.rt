@@ -88,7 +88,7 @@ fn run_command<S: Source, K: Sink>(
 
 /// Does what the words ask for, on the input that the source has and the output that the sink takes. Words that ask for nothing are
 /// answered by `Words`, and then nothing is read or written. Else the input is read to its end, by `generate` none of it, and all output
-/// is made before the first write. After `WriteFault` the sink was given a front of the output.
+/// is made before the first write. After `WriteFault` the sink was given a prefix of the output.
 pub fn run<S: Source, K: Sink>(
     alloc: Global,
     words: &[String],

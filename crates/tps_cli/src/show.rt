@@ -12,7 +12,7 @@ use nd_rules::outlines::Outline;
 use std::alloc::{AllocError, Global};
 use tps_print::lines::print_line;
 
-/// The printed lines of an outline, each with LF behind it.
+/// The printed lines of an outline, each with LF after it.
 fn printed(alloc: Global, outline: &Outline) -> Result<Text, AllocError>
     ensures { IfOk result (λ text. text ≡ printed_lines outline.now) }
 {

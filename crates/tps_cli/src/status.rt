@@ -20,7 +20,7 @@ pub enum Status {
     ReadFault,
     /// The output couldn't be written.
     WriteFault,
-    /// Memory was wanting.
+    /// Memory ran out.
     Memory,
 }
 

@@ -1,4 +1,4 @@
--- Each path of a chain holds a pair: beside an odd leaf it holds the next one, or the odd one behind that.
+-- Each path of a chain holds a pair: beside an odd leaf it holds the next one, or the odd one after that.
 use Rattle.std.proofs.Common.{◌≡◌, ◌∙◌, ℕ, zero, suc, ◌+◌, ◌*◌, ◌<◌, ◌≤◌, ◌==◌, List, [], ◌∷◌, ◌++◌, map, Bool, true, false, ◌&&◌, ◌||◌, inl, inr, refl, sym, ap, subst, arith}
 use Rattle.std.specs.Prelude.{All, Contains, slice_index_or}
 use Rattle.std.proofs.lemmas.List.Elements.{All-nil, All-cons, All-append, All-map, All-weaker, All-head, All-tail, Contains-append_left, Contains-push}
@@ -102,7 +102,7 @@ All-joined P (p ∷ ps) qs h =
     All-append P (map (λ q. p ++ q) qs) (joined ps qs) (All-map P (λ q. p ++ q) qs (All-head (λ r. All (λ q. P (r ++ q)) qs) p ps h))
     (All-joined P ps qs (All-tail (λ r. All (λ q. P (r ++ q)) qs) p ps h))
 
--- the path, with the last leaf behind it, is closed
+-- the path, with the last leaf after it, is closed
 abbrev EndsClosed : List (ℕ × ℕ) → ℕ → List ℕ → Type 0
 EndsClosed pairs last p = All (λ (q : List ℕ). is_closed pairs (p ++ q) ≡ true) ((last ∷ []) ∷ [])
 

@@ -152,7 +152,7 @@ fn pairs(alloc: Global, n: u64) -> Result<Mating, AllocError>
 
 /// The expansion proof with n instances, from 1 to 100, of
 /// `P z AND [FORALL x(I). P x IMPLIES P [s x]] IMPLIES P t`, where t is s applied n times to z. It has 2n + 2 leaves, n + 1 pairs and
-/// n occurrences, whose terms weigh n (n + 1) / 2. An error comes only where memory is wanting.
+/// n occurrences, whose terms weigh n (n + 1) / 2. An error comes only where memory runs out.
 pub fn chain(alloc: Global, n: u64) -> Result<ProofText, AllocError>
     requires low { 1 ≤ n }
     requires high { n ≤ 100 }

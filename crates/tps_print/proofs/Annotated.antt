@@ -403,7 +403,7 @@ collected_in v earlier (x ∷ xs) h = go (list_any (same_variable x) earlier) (c
     go false (inl k) = elim (in_parts v earlier (x ∷ []) k) [ inl j ↦ inl j | inr j ↦ elim j [ inl e ↦ inr (inl e) | inr none ↦ absurd none ] ]
     go false (inr k) = inr (inr k)
 
--- behind a first part: a variable that stands earlier stands before both, or is free in the first part
+-- after a first part: a variable that stands earlier stands before both, or is free in the first part
 behind_first : (X : Type 0) (n : List ℕ) (s : SimpleType) (earlier : List Variable) (f : Term)
     → (IsFree n s f → In (n, s) earlier ⊎ X) → In (n, s) (with_variables earlier (occurrences f)) ⊎ X → In (n, s) earlier ⊎ X
 behind_first X n s earlier f first (inr x) = inr x

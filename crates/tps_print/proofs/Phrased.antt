@@ -165,7 +165,7 @@ pub record ReadsPhrase (K : Phrase → Type 0) (ts : List Token) (more : List Si
 abbrev pub AtLeast : ℕ → Phrase → Type 0
 AtLeast n p = (n ≤ rank p) × (is_closed p ≡ true)
 
--- how tightly a phrase binds at a level, and that it doesn't end behind a dot but at the top
+-- how tightly a phrase binds at a level, and that it doesn't end after a dot but at the top
 abbrev pub Fits : Level → Phrase → Type 0
 Fits level.Top p = Unit {0}
 Fits level.Operand p = AtLeast 5 p

@@ -5,12 +5,12 @@ use Rattle.nd_rules.specs.Lines.{Justification, hypothesis, deduction, universal
 use Rattle.tps_print.specs.Pieces.{Piece, fixed, pieces}
 use Rattle.tps_print.specs.declared.levels.Level.TheVariants as level
 
--- numbers in decimal, each behind a space
+-- numbers in decimal, each after a space
 abbrev pub spaced_numbers : List ℕ → List ℕ
 spaced_numbers [] = []
 spaced_numbers (n ∷ ns) = codes " " ++ (decimal n ++ spaced_numbers ns)
 
--- numbers in decimal, each behind a comma
+-- numbers in decimal, each after a comma
 abbrev pub further_numbers : List ℕ → List ℕ
 further_numbers [] = []
 further_numbers (n ∷ ns) = codes "," ++ (decimal n ++ further_numbers ns)
@@ -32,7 +32,7 @@ term_of (conversion d) = None
 term_of (assignments ds) = None
 term_of planned = None
 
--- a rule's word, the numbers of lines, and the bare name or the term as an argument, each behind a space
+-- a rule's word, the numbers of lines, and the bare name or the term as an argument, each after a space
 abbrev pub why_pieces : List (List ℕ) → Justification → List Piece
 why_pieces names hypothesis = fixed (codes "P") ∷ []
 why_pieces names (deduction d h) = fixed (codes "DEDUCT" ++ spaced_numbers (d ∷ h ∷ [])) ∷ []

@@ -18,17 +18,17 @@ abbrev pub letters_before : List ℕ → List Sign → List Sign
 letters_before [] signs = signs
 letters_before (l ∷ ls) signs = word (l ∷ ls) ∷ signs
 
--- the letters behind the result of a function type with this argument
+-- the letters after the result of a function type with this argument
 abbrev pub letters_behind : SimpleType → List ℕ → List ℕ
 letters_behind (base_type l) ls = l ∷ ls
 letters_behind (function_type r s) ls = []
 
--- the signs behind them; those of an argument in parentheses are the last
+-- the signs after them; those of an argument in parentheses are the last
 abbrev pub signs_behind : SimpleType → List Sign → List Sign → List Sign
 signs_behind (base_type l) signs inner = signs
 signs_behind (function_type r s) signs inner = open_round ∷ inner
 
--- a type, the letters that stand directly behind it, and then more signs
+-- a type, the letters that stand directly after it, and then more signs
 abbrev pub type_signs : SimpleType → List ℕ → List Sign → List Sign
 type_signs (base_type l) ls signs = word (l ∷ ls) ∷ signs
 type_signs (function_type r s) ls signs =

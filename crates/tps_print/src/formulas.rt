@@ -15,9 +15,9 @@ use hol_terms::terms::Tm;
 use std::alloc::{AllocError, Global};
 
 /// The text of a term as logicians write it. A binder with d binders around it has the name d + 1 of x1, x2 and so on, without the names
-/// that are free in the term; the first occurrence of each free variable has its type behind it. The text is read again as the term,
+/// that are free in the term; the first occurrence of each free variable has its type after it. The text is read again as the term,
 /// with its type as the wanted one and no known names, where no name is free at two types, no word is longer than 64 characters, and
-/// the depth of the text is at most 1,000. An error comes only where memory is wanting.
+/// the depth of the text is at most 1,000. An error comes only where memory runs out.
 pub fn print_formula(alloc: Global, t: &Tm) -> Result<Text, AllocError>
     requires { (s : SimpleType) × Typed [] (plain_term t.now) s }
     ensures printed { IfOk result (λ text. text ≡ printed_formula (plain_term t.now)) }

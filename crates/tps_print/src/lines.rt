@@ -22,7 +22,7 @@ use hol_terms::terms::Tm;
 use nd_rules::lines::{Line, Why};
 use std::alloc::{AllocError, Global};
 
-/// Adds numbers, each behind a space.
+/// Adds numbers, each after a space.
 fn append_spaced(alloc: Global, text: &mut Text, numbers: &[u64]) -> Result<(), AllocError>
     ensures { OnOk result (text.new ≡ text.old ++ spaced_numbers numbers.now) }
 {
@@ -35,7 +35,7 @@ fn append_spaced(alloc: Global, text: &mut Text, numbers: &[u64]) -> Result<(), 
     Ok(())
 }
 
-/// Adds numbers, each behind a comma.
+/// Adds numbers, each after a comma.
 fn append_further(alloc: Global, text: &mut Text, numbers: &[u64]) -> Result<(), AllocError>
     ensures { OnOk result (text.new ≡ text.old ++ further_numbers numbers.now) }
 {
@@ -185,7 +185,7 @@ fn term_of(why: &Why) -> Option<&Tm>
 
 /// The text of a line: its number, its hypotheses in braces, its formula and its justification, as `2 {1} |- p(O) OR q(O) : RULEP 1`.
 /// The names of bound variables are free neither in the formula nor in the term of the justification, and a free variable has its type
-/// behind its first occurrence in the formula and then the term. An error comes only where memory is wanting.
+/// after its first occurrence in the formula and then the term. An error comes only where memory runs out.
 pub fn print_line(alloc: Global, line: &Line) -> Result<Text, AllocError>
     ensures { IfOk result (λ text. text ≡ printed_line (plain_line line.now)) }
 {

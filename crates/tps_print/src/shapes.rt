@@ -42,7 +42,7 @@ fn shape_of_existential<'a>(ty: &Ty, argument: &'a Tm) -> Shape<'a>
     }
 }
 
-/// The shape of two terms behind a third.
+/// The shape of two terms after a third.
 fn shape_of_pair<'a>(head: &Tm, first: &'a Tm, second: &'a Tm) -> Shape<'a>
     ensures shape { HasShape result (application (plain_term head.now) (plain_term first.now)) (plain_term second.now) }
     ensures parts { HasSmallParts result (node_count (plain_term first.now) + node_count (plain_term second.now) + 1) }

@@ -234,7 +234,7 @@ extend_expansion d p a b ty bs gs hs e below f s h =
     let here = expansion_extensions d p a b ty x.0 gs e (below x.0 x.1) in
     subst (λ (r : Standing). AreExtensions d p a r hs) (sym x.2) (subst (AreExtensions d p a (at_expansion p x.0)) (sym f) here)
 
--- in the first branch, and behind it
+-- in the first branch, and after it
 
 branch_extensions : (d : Allowance) (p : Bool) (ty : SimpleType) (b w a : Term) (t : ExpansionTree) (bs : ExpansionBranches) (n : Standing) (ns : StandingBranches)
     (gs : List GrownTree) (hs : List GrownBranches) → Long [] w ty → IsNormalFormula a (instance_of b w) → Stands p a t n → BranchesStand p ty b bs ns

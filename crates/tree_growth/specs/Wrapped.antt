@@ -33,6 +33,6 @@ under_expansion g = (expansion_node g.0, g.1)
 abbrev pub in_first_branch : Term → ExpansionBranches → GrownTree → GrownBranches
 in_first_branch u bs g = (branch u g.0 bs, g.1)
 
--- behind the branch of the term u with the tree t
+-- after the branch of the term u with the tree t
 abbrev pub behind_branch : Term → ExpansionTree → GrownBranches → GrownBranches
 behind_branch u t g = (branch u t g.0, g.1)

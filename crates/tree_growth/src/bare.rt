@@ -15,8 +15,8 @@ use hol_terms::terms::Tm;
 use std::alloc::{AllocError, Global};
 
 /// The tree without a branch at a long formula, each leaf of which has a variable as its head. Its selected variables have the names a1, a2
-/// and so on from that of a number on, without those that are taken, in the order of their nodes. An error comes only where memory is
-/// wanting.
+/// and so on from that of a number on, without those that are taken, in the order of their nodes. An error comes only where memory runs
+/// out.
 #[cycle(bare)]
 pub fn bare(
     alloc: Global,

@@ -25,8 +25,8 @@ use hol_terms::types::Ty;
 use std::alloc::{AllocError, Global};
 use term_lists::long_terms::long_terms;
 
-/// All trees that come of a tree, which stands at the formula, by one more branch: a term that the addition allows, with a bare tree, behind
-/// the other branches of one of its expansion nodes. Those of nodes to the left come first. An error comes only where memory is wanting.
+/// All trees that come of a tree, which stands at the formula, by one more branch: a term that the addition allows, with a bare tree, after
+/// the other branches of one of its expansion nodes. Those of nodes to the left come first. An error comes only where memory runs out.
 #[cycle(extend)]
 pub fn extensions(
     alloc: Global,

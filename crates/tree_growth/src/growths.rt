@@ -169,7 +169,7 @@ impl BranchGrowth {
         }
     }
 
-    /// Behind a branch.
+    /// After a branch.
     pub(crate) fn behind(
         self,
         alloc: Global,
@@ -277,7 +277,7 @@ pub(crate) fn all_in_branch(
     Ok(all)
 }
 
-/// Each behind a branch.
+/// Each after a branch.
 pub(crate) fn all_behind(
     alloc: Global,
     term: &Tm,

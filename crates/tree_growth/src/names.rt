@@ -46,7 +46,7 @@ impl TakenNames {
         self.names.iter().any(|taken| taken.same(name))
     }
 
-    /// The first of the names a1, a2 and so on, from that of the number on, that isn't one of them; and the number behind its own.
+    /// The first of the names a1, a2 and so on, from that of the number on, that isn't one of them; and the number after its own.
     pub fn fresh(&self, alloc: Global, from: u64) -> Result<(Name, u64), AllocError>
         ensures name { IfOk result (λ r. (n : ℕ) × (from ≤ n) × (r.0 ≡ numbered_name n) × (r.1 ≡ n + 1)) }
         ensures free { IfOk result (λ r. Contains self.now r.0 → ⊥) }

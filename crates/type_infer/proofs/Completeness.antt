@@ -67,7 +67,7 @@ binder_meets names w Exists place i j q r s b t ei ej es h =
 binder_meets names w Lambda place i j q r s b t ei ej es h =
     ((es ∙ h.1 ∙ ap₂ function_type (sym ej) (sym ei), tt), h.0 ∙ ap (λ (p : SimpleType). abstraction p b) (sym ei))
 
--- two parts beside each other and a whole behind them
+-- two parts beside each other and a whole after them
 
 -- what a whole of two parts agrees with
 two_parts : (first i j : ℕ) (w v1 v2 : ℕ → SimpleType) (s : SimpleType) → first ≤ i → i + 1 ≤ j

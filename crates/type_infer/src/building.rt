@@ -205,7 +205,7 @@ struct Built {
     own: u64,
 }
 
-/// A term with the number behind the given one.
+/// A term with the number after the given one.
 fn with_next(term: Tm, before: u64) -> Result<Built, AllocError>
     ensures term { IfOk result (λ b. plain_term b.term ≡ plain_term term) }
     ensures own { IfOk result (λ b. b.own ≡ before + 1) }
@@ -236,7 +236,7 @@ fn applied(alloc: Global, function: Built, argument: Built) -> Result<Built, All
     with_next(term, own)
 }
 
-/// A phrase behind a binder over a variable of the type.
+/// A phrase after a binder over a variable of the type.
 fn binding(alloc: Global, binder: Binder, ty: Ty, body: Built) -> Result<Built, AllocError>
     ensures term { IfOk result (λ b. plain_term b.term ≡ bound_over binder (plain_type ty) (plain_term body.term)) }
     ensures own { IfOk result (λ b. b.own ≡ body.own + 1) }

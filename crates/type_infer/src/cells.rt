@@ -18,7 +18,7 @@ pub enum Cell {
     Function(u64, u64),
 }
 
-/// The cell is put behind the others; the answer is its number.
+/// The cell is put after the others; the answer is its number.
 pub fn push(cells: &mut Vec<Cell>, cell: Cell) -> Result<u64, AllocError>
     ensures number { IfOk result (λ i. i ≡ length cells.old.items) }
     ensures cells { OnOk result (cells.new.items ≡ cells.old.items ++ cell ∷ []) }
@@ -28,7 +28,7 @@ pub fn push(cells: &mut Vec<Cell>, cell: Cell) -> Result<u64, AllocError>
     Ok(number)
 }
 
-/// Cells for a type and its parts are put behind the others; the answer is the number of the whole.
+/// Cells for a type and its parts are put after the others; the answer is the number of the whole.
 #[tactic(auto, using(crate::proofs::Stores::adds_base, crate::proofs::Stores::adds_function, crate::proofs::Stores::adds_store))]
 pub fn add_type(cells: &mut Vec<Cell>, ty: &Ty) -> Result<u64, AllocError>
     requires { IsStore cells.old.items }

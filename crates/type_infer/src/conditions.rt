@@ -37,7 +37,7 @@ pub struct Condition<'a> {
     pub equation: Equation<'a>,
 }
 
-/// The equation is put behind the others.
+/// The equation is put after the others.
 fn add<'a>(
     conditions: &mut Vec<Condition<'a>>,
     place: u64,
@@ -156,7 +156,7 @@ fn binding<'a>(
     }
 }
 
-/// The conditions of the nodes of a phrase are put behind the others. Its numbers begin with `first`; the answer is the last of
+/// The conditions of the nodes of a phrase are put after the others. Its numbers begin with `first`; the answer is the last of
 /// them, which is that of its own type.
 fn collect<'a>(
     alloc: Global,

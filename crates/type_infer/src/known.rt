@@ -72,7 +72,7 @@ impl<'a> Known<'a> {
     }
 }
 
-/// The number is put behind the others, where that is asked.
+/// The number is put after the others, where that is asked.
 fn push_if(places: &mut Vec<u64>, asked: bool, i: u64) -> Result<(), AllocError>
     ensures { OnOk result (places.new.items ≡ cond asked (places.old.items ++ i ∷ []) places.old.items) }
 {

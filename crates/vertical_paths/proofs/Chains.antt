@@ -80,7 +80,7 @@ task_at n tasks at d h some within =
           ∙ chain-push front task at last ∙ ap (λ l. task.matrix.now ∷ l) (chain-take tasks k task.rest older (omega (arith, less)));
     }
 
--- choices stay as tasks are put behind the others
+-- choices stay as tasks are put after the others
 pub paths_left-tasks : (tasks more : List Task) (leaves : List ℕ) (choices : List Choice) → AreChoices (length tasks) (length leaves) choices → paths_left (tasks ++ more) leaves choices ≡ paths_left tasks leaves choices
 paths_left-tasks tasks more leaves [] h = refl
 paths_left-tasks tasks more leaves (choice ∷ older) h = rw (take-append-le choice.at tasks more h.0) refl

@@ -41,7 +41,7 @@ is_closed-take pairs path k h = go (is_closed pairs (take k path)) refl
     go false e = e
     go true e = (let all = ap (is_closed pairs) (take-append-drop k path) in let closed = is_closed-more pairs (take k path) (drop k path) e in cc)
 
--- behind a closed prefix no path is open
+-- after a closed prefix no path is open
 pub none_open : (pairs : List (ℕ × ℕ)) (prefix : List ℕ) (ps : List (List ℕ)) → is_closed pairs prefix ≡ true → first_open pairs (behind prefix ps) ≡ None
 none_open pairs prefix [] h = refl
 none_open pairs prefix (p ∷ ps) h = rw (is_closed-more pairs prefix p h) (none_open pairs prefix ps h)

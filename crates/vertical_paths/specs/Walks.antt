@@ -10,7 +10,7 @@ use Rattle.vertical_paths.specs.declared.walk.Walk.{Walk}
 use Rattle.vertical_paths.specs.Matings.{is_closed}
 use Rattle.vertical_paths.specs.Partners.{AreCounts, ArePartnerRows}
 
--- each list behind a prefix
+-- each list after a prefix
 abbrev pub behind : List ℕ → List (List ℕ) → List (List ℕ)
 behind prefix paths = map (λ path. prefix ++ path) paths
 

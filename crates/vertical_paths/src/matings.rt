@@ -63,7 +63,7 @@ fn open_path(alloc: Global, fitted: &Fitted, mating: &Mating) -> Result<Option<N
 }
 
 /// The first path of the fitted tree that holds no pair of the mating, as its leaf numbers, from 1; `None` where the mating spans.
-/// An `Err` is want of memory.
+/// An `Err` is running out of memory.
 pub fn first_open(
     alloc: Global,
     fitted: &Fitted,

@@ -33,7 +33,7 @@ fn empty_rows(alloc: Global, bound: usize) -> Result<Vec<Vec<u64>>, AllocError>
     Ok(rows)
 }
 
-/// Puts a partner behind the others of the leaf, where it has a row.
+/// Puts a partner after the others of the leaf, where it has a row.
 fn put(rows: &mut Vec<Vec<u64>>, leaf: u64, partner: u64) -> Result<(), AllocError>
     ensures bound { length rows.new.items ≡ length rows.old.items }
     ensures row { OnOk result ((n : ℕ) → n < length rows.old.items → slice_index_or (row_lists rows.new.items) n [] ≡ slice_index_or (row_lists rows.old.items) n [] ++ (if leaf == n then partner ∷ [] else [])) }

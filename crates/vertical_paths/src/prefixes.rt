@@ -48,7 +48,7 @@ impl Prefix {
             .any(|partner| *partner == leaf || self.has(*partner))
     }
 
-    /// Puts a leaf behind the others.
+    /// Puts a leaf after the others.
     pub fn push(&mut self, leaf: u64) -> Result<(), AllocError>
         requires counts { AreCounts self.old.counts.items self.old.leaves.items }
         requires below { leaf < length self.old.counts.items }

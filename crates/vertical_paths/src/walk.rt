@@ -21,7 +21,7 @@ struct Task<'m> {
     rest: usize,
 }
 
-/// Another way to go on: through the task of this number, behind the first leaves, as many as given.
+/// Another way to go on: through the task of this number, after the first leaves, as many as given.
 #[derive(Clone, Copy)]
 struct Choice {
     at: usize,
