@@ -228,15 +228,10 @@ fn stand_expansion(
     let Some((ty, body)) = quantified_body(!positive, formula) else {
         return Err(FitFault::Misfit(node));
     };
-    let (matrices, end) = stand_branches(
-        alloc,
-        branches,
-        below,
-        positive,
-        &ty,
-        &body,
-        &mut *found,
-    )?;
+    let stood = stand_branches(alloc, branches, below, positive, &ty, &body, &mut *found);
+    drop(ty);
+    drop(body);
+    let (matrices, end) = stood?;
     let matrix = all_above(alloc, matrices)?;
     Ok((matrix, end))
 }

@@ -71,7 +71,7 @@ pub stand_expansion-returns-clause-ok : goal.stand_expansion-returns-clause-ok
 stand_expansion-returns-clause-ok t c =
     let branches = rw c.in_ok-below.ensures.ok at c.in_ok-matrices.ensures.ok in
     expansion_stood (plain_branches c.args.branches.now) c.args.positive (plain_term c.args.formula) (plain_term c.in-Some.body) (plain_type c.in-Some.ty) c.args.node c.in_ok-matrices.end
-    (findings_of c.args.found.now) (findings_of c.stand_branches.new.found) c.in_ok-matrices.matrices.items c.in_ok-matrix.matrix
+    (findings_of c.args.found.now) (findings_of c.stand_branches-stood.new.found) c.in_ok-matrices.matrices.items c.in_ok-matrix.matrix
     (c.in-Some.ensures.some ∙ ap (λ (k : Constant). quantified k (plain_type c.in-Some.ty) (plain_term c.in-Some.body)) (sym (expanding_is c.args.positive (plain_type c.in-Some.ty))))
     branches c.in_ok-matrix.ensures.paths c.in_ok-matrix.ensures.numbered
 
