@@ -1,4 +1,8 @@
-"""Tries `./tps` where the program isn't built: its answers are the built program's, with one line on standard error that says so."""
+"""Tries `./tps` where the program isn't built, and `./build`.
+
+The answers of `./tps` are the built program's, with one line on standard error that says where they come from. `./build` is tried with a
+script in place of rt.
+"""
 import concurrent.futures
 import os
 import pathlib
@@ -28,7 +32,7 @@ def copy_of(top, room):
     copy = pathlib.Path(room) / "copy"
     shutil.copytree(top / "crates", copy / "crates", ignore=shutil.ignore_patterns("out", "must-fail"))
     shutil.copytree(top / "examples", copy / "examples")
-    for name in ["tps", "crates.txt"]:
+    for name in ["tps", "build", "crates.txt"]:
         shutil.copy2(top / name, copy / name)
     return copy
 
@@ -50,12 +54,12 @@ def tried(top, copy, program, words, given):
     return None if done.stderr == UNBUILT else f"wrote to standard error {done.stderr[:300]!r}"
 
 
-def with_rt(copy, room, script):
-    """How the launcher ends where this script stands in for rt."""
+def with_rt(command, words, room, script):
+    """How the command ends where this script stands in for rt."""
     folder = pathlib.Path(tempfile.mkdtemp(dir=room))
     (folder / "rt").write_text(f"#!/bin/sh\n{script}\n")
     (folder / "rt").chmod(0o755)
-    return run(copy / "tps", ["check"], b"", {**os.environ, "PATH": f"{folder}:{os.environ['PATH']}"})
+    return run(command, words, b"", {**os.environ, "PATH": f"{folder}:{os.environ['PATH']}"})
 
 
 def path_without_rt(room):
@@ -86,6 +90,28 @@ def built_copy(copy, program, room):
     return None if done.returncode == 70 else "a newer source went unseen"
 
 
+def built_anew(copy, room):
+    """Why the build doesn't say how far it is and where the program is, or None."""
+    script = 'if [ "$1" = run ]; then mkdir -p out && cp /bin/true out/tps_cli; exit 2; fi'
+    done = with_rt(copy / "build", [], room, script)
+    lines = done.stdout.decode().splitlines()
+    program = copy / "crates" / "tps_cli" / "out" / "tps_cli"
+    count = len(lines) - 2
+    wanted = [f" ({number} of {count}, 0 min)" for number in range(1, count + 1)]
+    said = [line.removeprefix("proved ").partition(" ")[2] for line in lines[:count]]
+    last = [f"The program is {program}. This installs it:", f"  install -m 755 {program} ~/.local/bin/tps"]
+    right = done.returncode == 0 and [f" {line}" for line in said] == wanted and lines[count - 1].startswith("proved tps_cli ") and lines[count:] == last
+    shutil.rmtree(program.parent, ignore_errors=True)
+    return None if right else f"ended with {done.returncode} and wrote {done.stdout[-400:]!r}"
+
+
+def not_built(copy, room):
+    """Why the build doesn't tell what a crate that isn't proved said, or None."""
+    done = with_rt(copy / "build", [], room, "echo 'lib.rt: not proved'; exit 1")
+    wanted = (70, b"lib.rt: not proved\nnot proved: tps_io\n")
+    return None if (done.returncode, done.stdout) == wanted else f"ended with {done.returncode} and wrote {done.stdout[:400]!r}"
+
+
 def launcher_results(top, program):
     """Each case of the launcher, with why it failed or None."""
     with tempfile.TemporaryDirectory() as room, concurrent.futures.ThreadPoolExecutor(os.cpu_count()) as pool:
@@ -93,10 +119,12 @@ def launcher_results(top, program):
         waiting = [(name, pool.submit(tried, top, copy, program, words, given)) for name, words, given in CALLS]
         results = [(f"launcher: {name}", done.result()) for name, done in waiting]
         for name, script, said in LIMITS:
-            done = with_rt(copy, room, script)
+            done = with_rt(copy / "tps", ["check"], room, script)
             told = UNBUILT + b"tps: no answer from the sources (" + said + b"); ./build makes the program, which has no such limit\n"
             right = (done.returncode, done.stdout, done.stderr) == (70, b"", told)
             results.append((f"launcher: {name}", None if right else f"ended with {done.returncode} and wrote {done.stderr[:300]!r}"))
+        results.append(("build: each crate, and the program's place", built_anew(copy, room)))
+        results.append(("build: a crate that isn't proved", not_built(copy, room)))
         results.append(("launcher: no rt", without_rt(copy, room)))
         results.append(("launcher: a built program, and a newer source", built_copy(copy, program, room)))
         return results
