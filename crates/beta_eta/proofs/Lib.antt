@@ -1,0 +1,3 @@
+pub mod BeyondLoose
+pub mod Entries
+pub mod Growing
