@@ -1,3 +1,4 @@
 pub mod BeyondLoose
+pub mod Calls
 pub mod Entries
 pub mod Growing

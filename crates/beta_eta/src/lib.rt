@@ -2,6 +2,7 @@
 #![tactic(auto)]
 
 pub mod arguments;
+mod hereditary;
 pub mod instances;
 pub mod laws;
 mod long_forms;
