@@ -1,5 +1,5 @@
 -- What has no loose index to be replaced stays, and the normal form depends on the types of the loose indices alone.
-use Rattle.std.proofs.Common.{ℕ, zero, suc, ◌+◌, ◌-◌, ◌<◌, ◌≤◌, List, [], ◌∷◌, slice_get, Some, None, Bool, true, false, cond, eqb, nat_lt, ◌≡◌, refl, ap, sym, ◌∙◌, arith}
+use Rattle.std.proofs.Common.{ℕ, zero, suc, ◌+◌, ◌-◌, ◌<◌, List, [], ◌∷◌, slice_get, Some, None, Bool, true, false, cond, eqb, nat_lt, ◌≡◌, refl, ap, ◌∙◌, arith}
 use Rattle.std.proofs.lemmas.Bool.Decides.{nat_tests}
 use Rattle.hol_terms.specs.Terms.{SimpleType, Term, free, bound, constant, application, abstraction}
 use Rattle.hol_terms.specs.Indices.{IsClosed, IsClosedBelow, raise}

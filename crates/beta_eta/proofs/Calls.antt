@@ -1,5 +1,5 @@
 -- The calls of hereditary substitution: their results by those of the calls below, whose heights are smaller.
-use Rattle.std.proofs.Common.{ℕ, ◌+◌, ◌-◌, ◌*◌, ◌<◌, ◌≤◌, List, [], ◌∷◌, Bool, true, false, cond, eqb, nat_lt, ◌≡◌, ◌≢◌, refl, ap, ap₂, sym, ◌∙◌, arith}
+use Rattle.std.proofs.Common.{ℕ, ◌+◌, ◌-◌, ◌*◌, ◌<◌, ◌≤◌, List, [], ◌∷◌, Bool, true, false, cond, eqb, nat_lt, ◌≡◌, ◌≢◌, ap, ap₂, sym, ◌∙◌, arith}
 use Rattle.std.proofs.lemmas.Bool.Decides.{nat_tests}
 use Rattle.hol_terms.specs.Terms.{SimpleType, function_type, Term, bound, application, abstraction}
 use Rattle.hol_terms.specs.Indices.{raise}
@@ -26,9 +26,9 @@ pub application_falls : (q o r s : SimpleType) (h : Term) (p : SimpleType) (b a 
     → h ≡ abstraction p b → whole ≡ a ∷ rest → x ≡ hereditary s 0 a b → more ≡ rest → 2 * apply_long_height q h whole ≡ t → 2 * apply_long_height o x more < t
 application_falls q o r s h p b a x whole rest more t ty part is list instance same height =
     let first : apply_long_height q h whole ≡ put_long_height (apply_long s) (apply_long_height s) 0 a b [] + apply_long_height r (hereditary s 0 a b) rest + 2 =
-        first_applied apply_long_height q r s h p b a whole rest ty is list in
+    first_applied apply_long_height q r s h p b a whole rest ty is list in
     let next : apply_long_height o x more ≡ apply_long_height r (hereditary s 0 a b) rest =
-        later_applied apply_long_height o r x (hereditary s 0 a b) more rest part instance same in
+    later_applied apply_long_height o r x (hereditary s 0 a b) more rest part instance same in
     omega arith
 
 -- a function that is applied to one argument more
@@ -43,9 +43,9 @@ module _ (apply : Term → List Term → Term) (height : Term → List Term → 
       → 2 * put_long_height apply height k u w rest ≡ t → 2 * put_long_height apply height k v g more < t
   function_falls u v w f g a rest more t is by same list whole =
       let first : put_long_height apply height k u w rest ≡ put_long_height apply height k u a [] + put_long_height apply height k u f (put_long apply k u a [] ∷ rest) + 1 =
-          ap (λ x. put_long_height apply height k u x rest) is in
+      ap (λ x. put_long_height apply height k u x rest) is in
       let next : put_long_height apply height k v g more ≡ put_long_height apply height k u f (put_long apply k u a [] ∷ rest) =
-          ap (λ x. put_long_height apply height k x g more) by ∙ ap₂ (put_long_height apply height k u) same list in
+      ap (λ x. put_long_height apply height k x g more) by ∙ ap₂ (put_long_height apply height k u) same list in
       omega arith
 
 -- an index

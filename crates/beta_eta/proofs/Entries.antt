@@ -1,5 +1,5 @@
 -- Entries of a table: what is found and what is kept.
-use Rattle.std.proofs.Common.{ℕ, zero, suc, ◌+◌, ◌<◌, List, [], ◌∷◌, length, Bool, true, false, if◌then◌else◌, eqb, ◌&&◌, Option, Some, Contains, ◌⊎◌, inl, inr, ◌≡◌, refl, ap, ap₂, sym, subst, ◌∙◌, arith}
+use Rattle.std.proofs.Common.{ℕ, zero, suc, ◌<◌, List, [], ◌∷◌, length, Bool, true, false, if◌then◌else◌, eqb, ◌&&◌, Some, Contains, ◌⊎◌, inl, inr, ◌≡◌, refl, ap, ap₂, sym, subst, ◌∙◌, arith}
 use Rattle.std.proofs.lemmas.Map.Views.{Contains-from_lookup}
 use Rattle.std.specs.Map.{lookup}
 use borrow.Author.Tests.{eqb-true}

@@ -1,13 +1,13 @@
 -- What stays as a store grows, and what the terms of a place are made of.
-use Rattle.std.proofs.Common.{ℕ, ◌+◌, ◌<◌, ◌≤◌, List, [], ◌∷◌, length, Contains, ◌⊎◌, inl, inr, Result, Ok, Err, IfOk, OnOk, ◌≡◌, refl, ap, ap₂, sym, subst, ◌∙◌, arith}
-use Rattle.hol_terms.specs.Terms.{SimpleType, Constant, Term, free, bound, constant, application, abstraction}
+use Rattle.std.proofs.Common.{ℕ, ◌<◌, ◌≤◌, List, [], ◌∷◌, length, Contains, ◌⊎◌, inl, inr, Result, Ok, Err, IfOk, OnOk, ◌≡◌, refl, ap, ap₂, sym, subst, ◌∙◌, arith}
+use Rattle.hol_terms.specs.Terms.{SimpleType, Term, abstraction}
 use Rattle.std.specs.declared.alloc.AllocError.{AllocError}
 use Rattle.hol_terms.specs.Indices.{IsClosedBelow}
 use Rattle.terms_db.specs.Loose.{loose_bound}
 use Rattle.terms_db.specs.declared.ids.TermId.{TermId}
 use Rattle.terms_db.specs.declared.nodes.Shape.{Shape}
 use Rattle.terms_db.specs.declared.nodes.Shape.TheVariants.{Free, Bound, Con as Logical, App, Lam}
-use Rattle.terms_db.specs.Nodes.{TermNode, node_free, node_bound, node_constant, node_application, node_abstraction}
+use Rattle.terms_db.specs.Nodes.{TermNode, node_application, node_abstraction}
 use Rattle.terms_db.specs.Shapes.{HasShape}
 use Rattle.terms_db.specs.Stores.{term_at, terms_of, term_of_node, PointsBelow, IsLive, Grows}
 use Rattle.terms_db.proofs.StoreLaws.{bound_is_least, grown_term}

@@ -2,9 +2,11 @@
 #![tactic(auto)]
 
 pub mod arguments;
-mod hereditary;
+pub mod hereditary;
 pub mod instances;
 pub mod laws;
 mod long_forms;
+pub mod normal;
 mod shapes;
 mod tables;
+mod types_around;

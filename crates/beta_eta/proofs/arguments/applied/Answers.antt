@@ -1,6 +1,5 @@
 -- One more argument is applied.
-use Rattle.std.proofs.Common.{ℕ, List, ◌∷◌, ap, ap₂, sym, subst, ◌∙◌}
-use Rattle.hol_terms.specs.Terms.{Term}
+use Rattle.std.proofs.Common.{ℕ, List, ap, ap₂, sym, subst, ◌∙◌}
 use Rattle.hol_conv.specs.NormalForms.{apply_all}
 use Rattle.terms_db.specs.Stores.{term_at}
 use Rattle.terms_db.proofs.StoreLaws.{grows_on}

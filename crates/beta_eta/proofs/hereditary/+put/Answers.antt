@@ -1,9 +1,9 @@
 -- Hereditary substitution by the parts of the term.
-use Rattle.std.proofs.Common.{ℕ, ◌+◌, ◌*◌, ◌<◌, List, [], ◌∷◌, IfOk, OnOk, ◌≡◌, refl, ap, ap₂, sym, subst, ◌∙◌, arith}
+use Rattle.std.proofs.Common.{ℕ, ◌+◌, ◌*◌, ◌<◌, List, [], ◌∷◌, IfOk, OnOk, ◌≡◌, ap, ap₂, sym, subst, ◌∙◌, arith}
 use Rattle.hol_terms.specs.Indices.{raise}
 use Rattle.hol_terms.specs.Terms.{Term, abstraction, function_type, plain_type}
 use Rattle.hol_conv.specs.NormalForms.{apply_all, apply_long, hereditary, put_long}
-use Rattle.hol_conv.proofs.Heights.{put_long_height, apply_long_height}
+use Rattle.hol_conv.proofs.Heights.{apply_long_height}
 use Rattle.terms_db.specs.Stores.{term_at}
 use Rattle.terms_db.proofs.StoreLaws.{grown_term, grows_on}
 use Rattle.beta_eta.specs.Listed.{AreLive, terms_at}
@@ -26,7 +26,7 @@ put_in_long-returns-clause-table t c =
     let s = plain_type c.args.ty.now in let u = term_at old c.args.by.place in
     let r = c.in_ok-result.ensures in
     let moved = grown_term old new c.args.t.place r.kept c.requires.live in
-    let whole = ap₂ (λ x l. put_long (apply_long s) c.args.at u x (terms_at old l)) (sym moved.1) c.none.ensures in
+    let whole = ap₂ (λ (x : Term) (l : List ℕ). put_long (apply_long s) c.args.at u x (terms_at old l)) (sym moved.1) c.none.ensures in
     results_with (λ k x. hereditary s k u x) new c.put_applied.new.table c.keep.new.self c.args.t.place c.args.at c.in_ok-result.result.place r.table c.in_ok-keep.ensures.kept (moved.0, r.live, r.term ∙ whole)
 
 -- an index
@@ -37,7 +37,7 @@ put_for_index-long_applied-requires t c =
     let s = plain_type c.args.ty.now in
     let grows = c.in_ok-head.ensures.kept in
     let same : apply_long_height s (term_at new c.in_ok-head.head.place) (terms_at new c.args.arguments) ≡ apply_long_height s (raise c.args.at 0 (term_at old c.args.by.place)) (terms_at old c.args.arguments) =
-        ap₂ (apply_long_height s) c.in_ok-head.ensures.term (terms_kept old new c.args.arguments grows c.requires.arguments) in
+    ap₂ (apply_long_height s) c.in_ok-head.ensures.term (terms_kept old new c.args.arguments grows c.requires.arguments) in
     let whole : 2 * apply_long_height s (raise c.args.at 0 (term_at old c.args.by.place)) (terms_at old c.args.arguments) + 2 ≡ t = c.decreases in
     let falls : 2 * apply_long_height s (term_at new c.in_ok-head.head.place) (terms_at new c.args.arguments) < t = omega arith in
     (falls, (c.in_ok-head.ensures.live, live_kept old new c.args.arguments grows c.requires.arguments))
@@ -131,7 +131,7 @@ put_applied-put_applied-requires t c =
     let by = grown_term old new c.args.by.place a.kept c.requires.by in
     let function = grown_term old new c.in-App.function.place a.kept (below_live old c.args.t.place c.in-App.function.place c.requires.live made.0) in
     let arguments : terms_at new c.put_first.new.self ≡ put_long (apply_long s) c.args.at u x [] ∷ terms_at old c.args.arguments =
-        ap (terms_at new) list ∙ ap₂ (λ (y : Term) (l : List Term). y ∷ l) a.term (terms_kept old new c.args.arguments a.kept c.requires.arguments) in
+    ap (terms_at new) list ∙ ap₂ (λ (y : Term) (l : List Term). y ∷ l) a.term (terms_kept old new c.args.arguments a.kept c.requires.arguments) in
     let falls = function_falls (apply_long s) (apply_long_height s) c.args.at u (term_at new c.args.by.place) (term_at old c.args.t.place) f (term_at new c.in-App.function.place) x (terms_at old c.args.arguments) (terms_at new c.put_first.new.self) t made.2 by.1 function.1 arguments c.decreases in
     let live = subst (AreLive new) (sym list) (a.live, live_kept old new c.args.arguments a.kept c.requires.arguments) in
     let P : Term → Type 0 = λ v. ArePutInLong s v new c.put_in_long.new.table in
@@ -153,7 +153,7 @@ put_applied-returns-in_ok-put_first-in-App-clause-term t c =
     let by = grown_term old new c.args.by.place a.kept c.requires.by in
     let function = grown_term old new c.in-App.function.place a.kept (below_live old c.args.t.place c.in-App.function.place c.requires.live made.0) in
     let arguments : terms_at new c.put_first.new.self ≡ put_long (apply_long s) c.args.at u x [] ∷ terms_at old c.args.arguments =
-        ap (terms_at new) list ∙ ap₂ (λ (y : Term) (l : List Term). y ∷ l) a.term (terms_kept old new c.args.arguments a.kept c.requires.arguments) in
+    ap (terms_at new) list ∙ ap₂ (λ (y : Term) (l : List Term). y ∷ l) a.term (terms_kept old new c.args.arguments a.kept c.requires.arguments) in
     let same = function_term (apply_long s) (apply_long_height s) c.args.at u (term_at new c.args.by.place) (term_at old c.args.t.place) f (term_at new c.in-App.function.place) x (terms_at old c.args.arguments) (terms_at new c.put_first.new.self) made.2 by.1 function.1 arguments in
     let P : Term → Type 0 = λ y. IfOk c.put_applied.result (λ r. term_at c.put_applied.new.db r.place ≡ y) in
     subst P same c.put_applied.ensures.term
@@ -185,7 +185,7 @@ put_applied-returns-in_ok-head-in-Lam-clause-term t c =
     let whole = (grown_term old middle c.args.t.place b.kept c.requires.live).1 ∙ made.2 in
     let body = b.term ∙ ap (λ (n : ℕ). hereditary s n u inside) c.in_ok-inner-in-Lam.ensures in
     let head : term_at last c.in_ok-head-in-Lam.head.place ≡ abstraction made.0 (hereditary s (c.args.at + 1) u inside) =
-        c.in_ok-head-in-Lam.ensures.term made.0 inside whole ∙ ap (abstraction made.0) body in
+    c.in_ok-head-in-Lam.ensures.term made.0 inside whole ∙ ap (abstraction made.0) body in
     let arguments = terms_at old c.args.arguments in
     let same = ap₂ apply_all head (terms_kept old last c.args.arguments grows c.requires.arguments) ∙ sym (ap (λ (x : Term). put_long (apply_long s) c.args.at u x arguments) made.2) in
     let P : Term → Type 0 = λ x. IfOk c.applied-in-Lam.result (λ r. term_at c.applied-in-Lam.new.db r.place ≡ x) in

@@ -1,5 +1,5 @@
 -- Terms put for an index, by the parts of the term in which they are put.
-use Rattle.std.proofs.Common.{ℕ, List, ◌≡◌, IfOk, rules, ap, ap₂, sym, subst, ◌∙◌}
+use Rattle.std.proofs.Common.{ℕ, ◌≡◌, IfOk, rules, ap, ap₂, sym, subst, ◌∙◌}
 use Rattle.hol_terms.specs.Terms.{Term, application, abstraction}
 use Rattle.hol_terms.specs.Indices.{put}
 use Rattle.hol_terms.proofs.IndexLaws.{put-closed}

@@ -1,5 +1,5 @@
 -- Raised terms by their parts.
-use Rattle.std.proofs.Common.{ℕ, List, ◌≡◌, IfOk, refl, ap, ap₂, sym, subst, ◌∙◌}
+use Rattle.std.proofs.Common.{ℕ, ◌≡◌, IfOk, ap, ap₂, sym, subst, ◌∙◌}
 use Rattle.hol_terms.specs.Terms.{Term, application, abstraction}
 use Rattle.hol_terms.specs.Indices.{raise}
 use Rattle.hol_terms.proofs.IndexLaws.{raise-closed}

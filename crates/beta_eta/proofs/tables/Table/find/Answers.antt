@@ -1,5 +1,5 @@
 -- What is found is an entry.
-use Rattle.std.proofs.Common.{ℕ, List, Some, Contains, ◌≡◌, ap, subst, ◌∙◌}
+use Rattle.std.proofs.Common.{ℕ, List, Contains, ◌≡◌, ap, subst, ◌∙◌}
 use Rattle.std.specs.Map.{lookup}
 use Rattle.beta_eta.specs.Tables.{Entry}
 use Rattle.beta_eta.proofs.Entries.{found_entry, same_key}

@@ -1,5 +1,5 @@
 -- Each entry is an old one or the new one.
-use Rattle.std.proofs.Common.{ℕ, List, Contains, ◌⊎◌, ◌≡◌, ap, ap₂, subst, ◌∙◌}
+use Rattle.std.proofs.Common.{ℕ, List, Contains, ◌⊎◌, ◌≡◌, ap₂, subst, ◌∙◌}
 use Rattle.indexmap.specs.IndexMap.{insert_entry}
 use Rattle.beta_eta.specs.Tables.{Entry}
 use Rattle.beta_eta.proofs.Entries.{kept_entry, same_key}
