@@ -171,7 +171,7 @@ fn put_for_index(
     }
 }
 
-/// The body of an abstraction with the term `t` for its variable. The old nodes stay, also after want of memory.
+/// The body of an abstraction with the term `t` for its variable. The old nodes stay, also after memory ran out.
 pub fn instantiate_id(
     alloc: Global,
     db: &mut Db,

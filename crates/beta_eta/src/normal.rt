@@ -252,7 +252,7 @@ fn type_of_variable(alloc: Global, db: &Db, t: TermId) -> Result<Ty, AllocError>
     }
 }
 
-/// The long normal form of a typed term. The old nodes stay, also after want of memory.
+/// The long normal form of a typed term. The old nodes stay, also after memory ran out.
 #[tactic(auto, using(hol_conv::proofs::Uniqueness::normal_form_is))]
 pub fn normal_id(alloc: Global, db: &mut Db, id: TermId) -> Result<TermId, AllocError>
     requires live { IsLive db.old id.place }
@@ -268,7 +268,7 @@ pub fn normal_id(alloc: Global, db: &mut Db, id: TermId) -> Result<TermId, Alloc
     normal_in(alloc, db, &mut types, &mut closed, &mut loose, id)
 }
 
-/// Whether two typed terms of one type are convertible. The old nodes stay, also after want of memory.
+/// Whether two typed terms of one type are convertible. The old nodes stay, also after memory ran out.
 pub fn convertible_ids(alloc: Global, db: &mut Db, s: TermId, t: TermId) -> Result<bool, AllocError>
     requires first { IsLive db.old s.place }
     requires second { IsLive db.old t.place }
