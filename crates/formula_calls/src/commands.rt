@@ -1,125 +1,166 @@
 //! Calls of `script_text`.
 
-use crate::answers::Answer;
+use crate::answers::{Answer, NoAnswer};
 use crate::forms::{read_bytes, read_repeated};
-use crate::raws::raw_text;
+use crate::raws::push_raw;
 use call_lines::answers::{name_text, verdict};
+use hol_terms::names::Name;
 use script_text::commands::ScriptCommand;
 use script_text::readers::read_command;
 use std::alloc::Global;
 use tps_reader::raws::Raw;
 
-/// The text, and the numbers, each after a space.
-fn with_numbers(alloc: Global, text: &str, numbers: &[u64]) -> Answer {
-    let mut answer = String::from_str(alloc, text)?;
+/// Adds the numbers, each after a space.
+fn push_numbers(alloc: Global, out: &mut String, numbers: &[u64]) -> Result<(), NoAnswer> {
     for n in numbers {
-        answer.push_str(format!(in alloc; " {n}")?.as_str())?;
+        out.push_str(format!(in alloc; " {n}")?.as_str())?;
     }
-    Ok(answer)
+    Ok(())
 }
 
-/// The text, and a phrase after a space.
-fn with_phrase(alloc: Global, text: Answer, phrase: &Raw) -> Answer {
-    let text = text?;
-    let phrase = raw_text(alloc, phrase)?;
-    Ok(format!(in alloc; "{text} {phrase}")?)
+/// Adds a phrase after a space.
+fn push_phrase(alloc: Global, out: &mut String, phrase: &Raw) -> Result<(), NoAnswer> {
+    out.push(' ')?;
+    push_raw(alloc, out, phrase)
 }
 
-/// A word with a number, a bar, the others, and a phrase.
-fn with_bar(alloc: Global, word: &str, number: u64, others: &[u64], phrase: &Raw) -> Answer {
-    let head = format!(in alloc; "{word} {number} |")?;
-    with_phrase(alloc, with_numbers(alloc, head.as_str(), others), phrase)
+/// Adds a word with numbers.
+fn push_step(alloc: Global, out: &mut String, word: &str, numbers: &[u64]) -> Result<(), NoAnswer> {
+    out.push_str(word)?;
+    push_numbers(alloc, out, numbers)
 }
 
-/// EGEN with its numbers and phrases.
-fn witness_text(alloc: Global, numbers: &[u64], term: &Raw, formula: &Raw) -> Answer {
-    let head = with_phrase(alloc, with_numbers(alloc, "EGEN", numbers), term)?;
-    let formula = raw_text(alloc, formula)?;
-    Ok(format!(in alloc; "{head} ; {formula}")?)
+/// Adds a word with numbers and a phrase.
+fn push_phrased(
+    alloc: Global,
+    out: &mut String,
+    word: &str,
+    numbers: &[u64],
+    phrase: &Raw,
+) -> Result<(), NoAnswer> {
+    push_step(alloc, out, word, numbers)?;
+    push_phrase(alloc, out, phrase)
 }
 
-/// The text, and after a space a name.
-fn with_name(alloc: Global, text: Answer, name: Answer) -> Answer {
-    let text = text?;
-    let name = name?;
-    Ok(format!(in alloc; "{text} {name}")?)
+/// Adds a word with a number, a bar, the other numbers, and a phrase.
+fn push_barred(
+    alloc: Global,
+    out: &mut String,
+    word: &str,
+    number: u64,
+    others: &[u64],
+    phrase: &Raw,
+) -> Result<(), NoAnswer> {
+    push_step(alloc, out, word, &[number])?;
+    out.push_str(" |")?;
+    push_numbers(alloc, out, others)?;
+    push_phrase(alloc, out, phrase)
 }
 
-/// A command that has numbers and at most a phrase or a name.
-fn simple_text(alloc: Global, command: &ScriptCommand) -> Answer {
+/// Adds EGEN with its numbers and phrases.
+fn push_witness(
+    alloc: Global,
+    out: &mut String,
+    numbers: &[u64],
+    term: &Raw,
+    formula: &Raw,
+) -> Result<(), NoAnswer> {
+    push_phrased(alloc, out, "EGEN", numbers, term)?;
+    out.push_str(" ;")?;
+    push_phrase(alloc, out, formula)
+}
+
+/// Adds RULEC with its numbers and its name.
+fn push_choice(
+    alloc: Global,
+    out: &mut String,
+    numbers: &[u64],
+    name: &Name,
+) -> Result<(), NoAnswer> {
+    push_step(alloc, out, "RULEC", numbers)?;
+    out.push(' ')?;
+    out.push_str(name_text(alloc, name)?.as_str())?;
+    Ok(())
+}
+
+/// Adds a command that has numbers and at most a phrase or a name.
+fn push_simple(alloc: Global, out: &mut String, command: &ScriptCommand) -> Result<(), NoAnswer> {
     match command {
         ScriptCommand::Deduct { number, src, hyp } => {
-            with_numbers(alloc, "DEDUCT", &[*number, *src, *hyp])
+            push_step(alloc, out, "DEDUCT", &[*number, *src, *hyp])
         }
         ScriptCommand::Ui { number, src, term } => {
-            with_phrase(alloc, with_numbers(alloc, "UI", &[*number, *src]), term)
+            push_phrased(alloc, out, "UI", &[*number, *src], term)
         }
         ScriptCommand::Ugen { number, src, var } => {
-            with_phrase(alloc, with_numbers(alloc, "UGEN", &[*number, *src]), var)
+            push_phrased(alloc, out, "UGEN", &[*number, *src], var)
         }
         ScriptCommand::Lambda {
             number,
             src,
             formula,
-        } => with_phrase(
-            alloc,
-            with_numbers(alloc, "LAMBDA", &[*number, *src]),
-            formula,
-        ),
+        } => push_phrased(alloc, out, "LAMBDA", &[*number, *src], formula),
         ScriptCommand::Rulec {
             number,
             some_line,
             hyp,
             src,
             var,
-        } => {
-            let head = with_numbers(alloc, "RULEC", &[*number, *some_line, *hyp, *src]);
-            with_name(alloc, head, Ok(name_text(alloc, var)?))
-        }
-        ScriptCommand::Undo => with_numbers(alloc, "UNDO", &[]),
-        ScriptCommand::Done => with_numbers(alloc, "DONE", &[]),
-        _ => with_numbers(alloc, "BLANK", &[]),
+        } => push_choice(alloc, out, &[*number, *some_line, *hyp, *src], var),
+        ScriptCommand::Undo => push_step(alloc, out, "UNDO", &[]),
+        ScriptCommand::Done => push_step(alloc, out, "DONE", &[]),
+        _ => push_step(alloc, out, "BLANK", &[]),
     }
 }
 
-/// A command, its numbers, and its phrases with their places.
-fn command_text(alloc: Global, command: &ScriptCommand) -> Answer {
+/// Adds a command, its numbers, and its phrases with their places.
+fn push_command(alloc: Global, out: &mut String, command: &ScriptCommand) -> Result<(), NoAnswer> {
     match command {
         ScriptCommand::Prove { number, goal } => {
-            with_phrase(alloc, with_numbers(alloc, "PROVE", &[*number]), goal)
+            push_phrased(alloc, out, "PROVE", &[*number], goal)
         }
         ScriptCommand::Plan {
             number,
             hyps,
             formula,
-        } => with_bar(alloc, "PLAN", *number, hyps.as_slice(), formula),
+        } => push_barred(alloc, out, "PLAN", *number, hyps.as_slice(), formula),
         ScriptCommand::P { number, formula } => {
-            with_phrase(alloc, with_numbers(alloc, "P", &[*number]), formula)
+            push_phrased(alloc, out, "P", &[*number], formula)
         }
         ScriptCommand::Egen {
             number,
             src,
             term,
             formula,
-        } => witness_text(alloc, &[*number, *src], term, formula),
+        } => push_witness(alloc, out, &[*number, *src], term, formula),
         ScriptCommand::Rulep {
             number,
             src,
             formula,
-        } => with_bar(alloc, "RULEP", *number, src.as_slice(), formula),
-        _ => simple_text(alloc, command),
+        } => push_barred(alloc, out, "RULEP", *number, src.as_slice(), formula),
+        _ => push_simple(alloc, out, command),
     }
+}
+
+/// The command of a line, its numbers, and its phrases with their places.
+fn command_text(alloc: Global, line: &[u8]) -> Answer {
+    let command = read_command(alloc, line)?;
+    let mut out = String::new(alloc);
+    let pushed = push_command(alloc, &mut out, &command);
+    drop(command);
+    pushed?;
+    Ok(out)
 }
 
 /// `LINE`: its command.
 pub fn command(alloc: Global, arguments: &str) -> Answer {
-    command_text(alloc, &read_command(alloc, arguments.as_bytes())?)
+    command_text(alloc, arguments.as_bytes())
 }
 
 /// `(BYTE ..)`: the command of the line of these bytes.
 pub fn command_of_bytes(alloc: Global, arguments: &str) -> Answer {
     let line = read_bytes(alloc, arguments)?;
-    command_text(alloc, &read_command(alloc, line.as_slice())?)
+    command_text(alloc, line.as_slice())
 }
 
 /// `COUNT | FIRST|TEXT|LAST`: whether the text, so many times between the others, is the line of a command.

@@ -1,6 +1,6 @@
 //! Raw formulas as text.
 
-use crate::answers::Answer;
+use crate::answers::{Answer, NoAnswer};
 use call_lines::answers::{name_text, term_text, type_text};
 use hol_terms::names::Name;
 use hol_terms::terms::{Con, Tm};
@@ -8,21 +8,30 @@ use hol_terms::types::Ty;
 use std::alloc::Global;
 use tps_reader::raws::{Binder, Infix, Raw};
 
-/// The name, and after a colon the type where one is written.
-fn variable_text(alloc: Global, name: &Name, ty: &Option<Ty>) -> Answer {
-    let name = name_text(alloc, name)?;
-    match ty {
-        None => Ok(name),
-        Some(ty) => {
-            let ty = type_text(alloc, ty)?;
-            Ok(format!(in alloc; "{name}:{ty}")?)
-        }
+/// Adds the name, and after a colon the type where one is written.
+fn push_variable(
+    alloc: Global,
+    out: &mut String,
+    name: &Name,
+    ty: &Option<Ty>,
+) -> Result<(), NoAnswer> {
+    out.push_str(name_text(alloc, name)?.as_str())?;
+    if let Some(ty) = ty {
+        out.push(':')?;
+        out.push_str(type_text(alloc, ty)?.as_str())?;
     }
+    Ok(())
 }
 
 /// The constant.
 fn constant_text(alloc: Global, con: &Con) -> Answer {
     Ok(term_text(alloc, &Tm::Con(con.copy(alloc)?))?)
+}
+
+/// Adds the constant.
+fn push_constant(alloc: Global, out: &mut String, con: &Con) -> Result<(), NoAnswer> {
+    out.push_str(constant_text(alloc, con)?.as_str())?;
+    Ok(())
 }
 
 /// The word of a connective, with a space around it.
@@ -38,51 +47,56 @@ fn infix_word(op: Infix) -> &'static str {
 /// The word of a binder.
 fn binder_word(binder: Binder) -> &'static str {
     match binder {
-        Binder::Forall => "FORALL",
-        Binder::Exists => "EXISTS",
-        Binder::Lambda => "LAMBDA",
+        Binder::Forall => "(FORALL ",
+        Binder::Exists => "(EXISTS ",
+        Binder::Lambda => "(LAMBDA ",
     }
 }
 
-/// A binder with its variable.
-fn binder_text(alloc: Global, binder: Binder, name: &Name, ty: &Option<Ty>) -> Answer {
-    let word = binder_word(binder);
-    let variable = variable_text(alloc, name, ty)?;
-    Ok(format!(in alloc; "{word} {variable}")?)
+/// Adds the place of a phrase.
+fn push_place(alloc: Global, out: &mut String, place: u64) -> Result<(), NoAnswer> {
+    out.push_str(format!(in alloc; "@{place}")?.as_str())?;
+    Ok(())
 }
 
-/// Two parts, and what stands between them, in parentheses.
-fn pair_text(alloc: Global, first: Answer, between: &str, second: Answer) -> Answer {
-    let first = first?;
-    let second = second?;
-    Ok(format!(in alloc; "({first}{between}{second})")?)
-}
-
-/// The part of a negation, in parentheses.
-fn negation_text(alloc: Global, below: Answer) -> Answer {
-    let below = below?;
-    Ok(format!(in alloc; "(~ {below})")?)
+/// Adds a phrase, each part that isn't a name or a constant in parentheses, and each with its place.
+pub fn push_raw(alloc: Global, out: &mut String, raw: &Raw) -> Result<(), NoAnswer> {
+    match raw {
+        Raw::Var(name, ty, _) => push_variable(alloc, out, name, ty)?,
+        Raw::Con(con, _) => push_constant(alloc, out, con)?,
+        Raw::App(function, argument, _) => {
+            out.push('(')?;
+            push_raw(alloc, out, function)?;
+            out.push(' ')?;
+            push_raw(alloc, out, argument)?;
+            out.push(')')?;
+        }
+        Raw::Bind(binder, name, ty, body, _) => {
+            out.push_str(binder_word(*binder))?;
+            push_variable(alloc, out, name, ty)?;
+            out.push(' ')?;
+            push_raw(alloc, out, body)?;
+            out.push(')')?;
+        }
+        Raw::Bin(op, left, right, _) => {
+            out.push('(')?;
+            push_raw(alloc, out, left)?;
+            out.push_str(infix_word(*op))?;
+            push_raw(alloc, out, right)?;
+            out.push(')')?;
+        }
+        Raw::Not(below, _) => {
+            out.push_str("(~ ")?;
+            push_raw(alloc, out, below)?;
+            out.push(')')?;
+        }
+    }
+    push_place(alloc, out, raw.place())
 }
 
 /// A phrase, each part that isn't a name or a constant in parentheses, and each with its place.
 pub fn raw_text(alloc: Global, raw: &Raw) -> Answer {
-    let text = match raw {
-        Raw::Var(name, ty, _) => variable_text(alloc, name, ty)?,
-        Raw::Con(con, _) => constant_text(alloc, con)?,
-        Raw::App(function, argument, _) => {
-            let function = raw_text(alloc, function);
-            pair_text(alloc, function, " ", raw_text(alloc, argument))?
-        }
-        Raw::Bind(binder, name, ty, body, _) => {
-            let variable = binder_text(alloc, *binder, name, ty);
-            pair_text(alloc, variable, " ", raw_text(alloc, body))?
-        }
-        Raw::Bin(op, left, right, _) => {
-            let left = raw_text(alloc, left);
-            pair_text(alloc, left, infix_word(*op), raw_text(alloc, right))?
-        }
-        Raw::Not(below, _) => negation_text(alloc, raw_text(alloc, below))?,
-    };
-    let place = raw.place();
-    Ok(format!(in alloc; "{text}@{place}")?)
+    let mut out = String::new(alloc);
+    push_raw(alloc, &mut out, raw)?;
+    Ok(out)
 }

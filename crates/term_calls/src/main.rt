@@ -7,7 +7,6 @@ mod conversions;
 mod forms;
 mod lists;
 mod names;
-mod stored;
 mod terms;
 
 use crate::answers::{Answer, NoAnswer};
@@ -38,9 +37,6 @@ fn answer(alloc: Global, call: &str, arguments: &str) -> Answer {
         "normal" => conversions::normal_form(alloc, arguments),
         "is_long_normal" => conversions::long(alloc, arguments),
         "convertible" => conversions::conversion(alloc, arguments),
-        "placed" => stored::placed(alloc, arguments),
-        "shared_instance" => stored::shared_instance(alloc, arguments),
-        "shared_normal" => stored::shared_normal(alloc, arguments),
         "follows" => consequences::consequence(alloc, arguments),
         "signature" => lists::heads(alloc, arguments),
         "long_terms" => lists::terms(alloc, arguments),
