@@ -105,6 +105,3 @@ pub fn run<S: Source, K: Sink>(
         None => Status::Words,
     }
 }
-
-#[cfg(test)]
-mod tests;
