@@ -32,7 +32,8 @@ ConvertibleByValues =
 
 -- a step between typed terms keeps the long normal form
 abbrev pub StepKeepsNormalForm : Type 0
-StepKeepsNormalForm = (types : List SimpleType) (t u : Term) (s : SimpleType) → Typed types t s → Typed types u s → Step t u → normal_form types t ≡ normal_form types u
+StepKeepsNormalForm =
+    (types : List SimpleType) (t u : Term) (s : SimpleType) → Typed types t s → Typed types u s → Step t u → normal_form types t ≡ normal_form types u
 
 -- a long term is its own long normal form
 abbrev pub LongIsNormal : Type 0
@@ -66,29 +67,37 @@ NormalAbstraction = (types : List SimpleType) (s : SimpleType) (b : Term) → no
 
 -- a formula's long normal form has the connective of the formula's head
 abbrev pub NormalNegation : Type 0
-NormalNegation = (types : List SimpleType) (a : Term) → normal_form types (application (constant negation) a) ≡ application (constant negation) (normal_form types a)
+NormalNegation =
+    (types : List SimpleType) (a : Term) → normal_form types (application (constant negation) a) ≡ application (constant negation) (normal_form types a)
 
 abbrev pub NormalConjunction : Type 0
 NormalConjunction =
     (types : List SimpleType) (a b : Term)
-    → normal_form types (application (application (constant conjunction) a) b) ≡ application (application (constant conjunction) (normal_form types a)) (normal_form types b)
+    → normal_form types (application (application (constant conjunction) a) b)
+    ≡ application (application (constant conjunction) (normal_form types a)) (normal_form types b)
 
 abbrev pub NormalDisjunction : Type 0
 NormalDisjunction =
     (types : List SimpleType) (a b : Term)
-    → normal_form types (application (application (constant disjunction) a) b) ≡ application (application (constant disjunction) (normal_form types a)) (normal_form types b)
+    → normal_form types (application (application (constant disjunction) a) b)
+    ≡ application (application (constant disjunction) (normal_form types a)) (normal_form types b)
 
 abbrev pub NormalImplication : Type 0
 NormalImplication =
     (types : List SimpleType) (a b : Term)
-    → normal_form types (application (application (constant implication) a) b) ≡ application (application (constant implication) (normal_form types a)) (normal_form types b)
+    → normal_form types (application (application (constant implication) a) b)
+    ≡ application (application (constant implication) (normal_form types a)) (normal_form types b)
 
 -- and its quantifier
 abbrev pub NormalForall : Type 0
-NormalForall = (types : List SimpleType) (s : SimpleType) (p : Term) → normal_form types (application (constant (forall s)) p) ≡ application (constant (forall s)) (normal_form types p)
+NormalForall =
+    (types : List SimpleType) (s : SimpleType) (p : Term) → normal_form types (application (constant (forall s)) p)
+    ≡ application (constant (forall s)) (normal_form types p)
 
 abbrev pub NormalExists : Type 0
-NormalExists = (types : List SimpleType) (s : SimpleType) (p : Term) → normal_form types (application (constant (exists s)) p) ≡ application (constant (exists s)) (normal_form types p)
+NormalExists =
+    (types : List SimpleType) (s : SimpleType) (p : Term) → normal_form types (application (constant (exists s)) p)
+    ≡ application (constant (exists s)) (normal_form types p)
 
 -- instances, and terms put for free variables
 

@@ -244,7 +244,8 @@ pub fn normal(alloc: Global, t: &Tm) -> Result<Tm, AllocError>
 #[tactic(auto, using(crate::proofs::Uniqueness::equal_normals))]
 pub fn convertible(alloc: Global, s: &Tm, t: &Tm) -> Result<bool, AllocError>
     requires { (q : SimpleType) × Typed [] (plain_term s.now) q × Typed [] (plain_term t.now) q }
-    ensures { IfOk result (λ b. (q : SimpleType) → Typed [] (plain_term s.now) q → Typed [] (plain_term t.now) q → (IsTrue b ↔ Conv [] q (plain_term s.now) (plain_term t.now))) }
+    ensures { IfOk result (λ b. (q : SimpleType) → Typed [] (plain_term s.now) q → Typed [] (plain_term t.now) q
+        → (IsTrue b ↔ Conv [] q (plain_term s.now) (plain_term t.now))) }
 {
     let n = normal(alloc, s)?;
     let m = normal(alloc, t)?;

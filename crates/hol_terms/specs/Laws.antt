@@ -92,7 +92,8 @@ HasOneBody = (n : List ℕ) (s : SimpleType) (t b c : Term) → IsClosed t → I
 -- a term of a variable's type, put for it, keeps the type of the whole
 abbrev pub ReplaceKeepsType : Type 0
 ReplaceKeepsType =
-    (types : List SimpleType) (n : List ℕ) (s : SimpleType) (u t : Term) (r : SimpleType) → Typed types u s → Typed types t r → Typed types (replace_free n s u t) r
+    (types : List SimpleType) (n : List ℕ) (s : SimpleType) (u t : Term) (r : SimpleType) → Typed types u s → Typed types t r
+    → Typed types (replace_free n s u t) r
 
 -- two terms put for two variables, the first of which isn't free in the second's term
 abbrev pub ReplacesCommute : Type 0

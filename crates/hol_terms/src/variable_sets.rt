@@ -82,7 +82,8 @@ impl VariableSet {
     /// Puts the variable after the others where it is new, and tells whether it is. An `Err` changes nothing.
     #[tactic(auto, using(crate::proofs::Placing::place_held))]
     pub fn insert(&mut self, name: &Name, ty: &Ty) -> Result<bool, AllocError>
-        ensures put { IfOk result (λ new. new ≡ true → (Contains self.old (name.now, plain_type ty.now) → ⊥) × (self.new ≡ self.old ++ (name.now, plain_type ty.now) ∷ [])) }
+        ensures put { IfOk result
+            (λ new. new ≡ true → (Contains self.old (name.now, plain_type ty.now) → ⊥) × (self.new ≡ self.old ++ (name.now, plain_type ty.now) ∷ [])) }
         ensures known { IfOk result (λ new. new ≡ false → Contains self.old (name.now, plain_type ty.now) × (self.new ≡ self.old)) }
         ensures err { OnErr result (self.new ≡ self.old) }
     {

@@ -77,7 +77,8 @@ fn is_fitting(gate: Gate<'_>, i: u64, values: &Vec<bool>) -> bool
 pub fn first_unfit(circuit: &Circuit<'_>, values: &Vec<bool>) -> Option<u64>
     requires circuit { IsCircuit (nodes_of circuit.now) }
     requires count { length values.now.items ≡ length (nodes_of circuit.now) }
-    ensures fits { MatchOption result (IsValuation (assigned values.now.items) (nodes_of circuit.now)) (λ i. (n : Node) → node_at (nodes_of circuit.now) i ≡ Some n → Fits (assigned values.now.items) i n → ⊥) }
+    ensures fits { MatchOption result (IsValuation (assigned values.now.items) (nodes_of circuit.now))
+        (λ i. (n : Node) → node_at (nodes_of circuit.now) i ≡ Some n → Fits (assigned values.now.items) i n → ⊥) }
     ensures within { MatchOption result (Unit {0}) (λ i. i < length (nodes_of circuit.now)) }
 {
     for i in 0..circuit.len() {
@@ -104,7 +105,8 @@ fn if_open(trail: &Trail, node: u64) -> Option<u64>
 pub fn open_part(circuit: &Circuit<'_>, trail: &Trail, i: u64) -> Option<u64>
     requires good { IsGood (nodes_of circuit.now) trail.now }
     requires within { i < length (nodes_of circuit.now) }
-    ensures { MatchOption result ((n : Node) → node_at (nodes_of circuit.now) i ≡ Some n → AreKnown trail.now.values.items i n) (λ j. slice_get trail.now.values.items j ≡ Some None) }
+    ensures { MatchOption result ((n : Node) → node_at (nodes_of circuit.now) i ≡ Some n → AreKnown trail.now.values.items i n)
+        (λ j. slice_get trail.now.values.items j ≡ Some None) }
 {
     match circuit.gate(i) {
         Gate::Atom(_) => None,

@@ -100,7 +100,8 @@ impl<'a> Circuit<'a> {
         requires first { i < length (nodes_of self.old) }
         requires second { j < length (nodes_of self.old) }
         ensures numbered { OnOk result (IsNumbered self.new) }
-        ensures adds { IfOk result (λ k. Adds (nodes_of self.old) (nodes_of self.new) k (λ is_true. value is_true (nodes_of self.old) i && value is_true (nodes_of self.old) j)) }
+        ensures adds { IfOk result (λ k. Adds (nodes_of self.old) (nodes_of self.new) k
+            (λ is_true. value is_true (nodes_of self.old) i && value is_true (nodes_of self.old) j)) }
         ensures brings { OnOk result (Brings (nodes_of self.old) (nodes_of self.new) []) }
     {
         self.put(Gate::And(i, j))
@@ -125,7 +126,8 @@ impl<'a> Circuit<'a> {
         requires first { i < length (nodes_of self.old) }
         requires second { j < length (nodes_of self.old) }
         ensures numbered { OnOk result (IsNumbered self.new) }
-        ensures adds { IfOk result (λ k. Adds (nodes_of self.old) (nodes_of self.new) k (λ is_true. value is_true (nodes_of self.old) i || value is_true (nodes_of self.old) j)) }
+        ensures adds { IfOk result (λ k. Adds (nodes_of self.old) (nodes_of self.new) k
+            (λ is_true. value is_true (nodes_of self.old) i || value is_true (nodes_of self.old) j)) }
         ensures brings { OnOk result (Brings (nodes_of self.old) (nodes_of self.new) []) }
     {
         let no_first = self.negation(i)?;
@@ -141,7 +143,8 @@ impl<'a> Circuit<'a> {
         requires first { i < length (nodes_of self.old) }
         requires second { j < length (nodes_of self.old) }
         ensures numbered { OnOk result (IsNumbered self.new) }
-        ensures adds { IfOk result (λ k. Adds (nodes_of self.old) (nodes_of self.new) k (λ is_true. not (value is_true (nodes_of self.old) i) || value is_true (nodes_of self.old) j)) }
+        ensures adds { IfOk result (λ k. Adds (nodes_of self.old) (nodes_of self.new) k
+            (λ is_true. not (value is_true (nodes_of self.old) i) || value is_true (nodes_of self.old) j)) }
         ensures brings { OnOk result (Brings (nodes_of self.old) (nodes_of self.new) []) }
     {
         let no_second = self.negation(j)?;
@@ -153,7 +156,8 @@ impl<'a> Circuit<'a> {
     #[tactic(auto, using(crate::proofs::Adding::atom_there, crate::proofs::Indexing::new_where_none))]
     fn find_atom(&self, t: &Tm) -> Option<u64>
         requires { IsNumbered self.now }
-        ensures { MatchOption result (IsNew (plain_term t.now) (nodes_of self.now)) (λ i. Adds (nodes_of self.now) (nodes_of self.now) i (λ is_true. is_true (plain_term t.now))) }
+        ensures { MatchOption result (IsNew (plain_term t.now) (nodes_of self.now))
+            (λ i. Adds (nodes_of self.now) (nodes_of self.now) i (λ is_true. is_true (plain_term t.now))) }
     {
         match self.places.get(&fingerprint(t)) {
             None => None,
@@ -172,7 +176,8 @@ impl<'a> Circuit<'a> {
     #[tactic(auto, using(crate::proofs::Adding::atom_there, crate::proofs::Adding::atom_new))]
     fn find_among_all(&self, t: &Tm) -> Option<u64>
         requires { IsNumbered self.now }
-        ensures { MatchOption result (IsNew (plain_term t.now) (nodes_of self.now)) (λ i. Adds (nodes_of self.now) (nodes_of self.now) i (λ is_true. is_true (plain_term t.now))) }
+        ensures { MatchOption result (IsNew (plain_term t.now) (nodes_of self.now))
+            (λ i. Adds (nodes_of self.now) (nodes_of self.now) i (λ is_true. is_true (plain_term t.now))) }
     {
         for i in 0..self.len() {
             if self.is_atom(i, t) {
@@ -264,7 +269,8 @@ impl<'a> Circuit<'a> {
     pub fn demand(&mut self, t: &'a Tm, wanted: bool) -> Result<(), AllocError>
         requires { IsNumbered self.old }
         ensures numbered { OnOk result (IsNumbered self.new) }
-        ensures demands { OnOk result ((is_true : Term → Bool) → meets is_true (nodes_of self.new) ≡ (same_value (truth_value is_true (plain_term t.now)) wanted && meets is_true (nodes_of self.old))) }
+        ensures demands { OnOk result ((is_true : Term → Bool)
+            → meets is_true (nodes_of self.new) ≡ (same_value (truth_value is_true (plain_term t.now)) wanted && meets is_true (nodes_of self.old))) }
         ensures brings { OnOk result (Brings (nodes_of self.old) (nodes_of self.new) (atoms_of (plain_term t.now))) }
     {
         let node = self.add(t)?;

@@ -94,7 +94,8 @@ fn advance(alloc: Global, circuit: &Circuit<'_>, trail: &mut Trail) -> Result<Ad
 #[tactic(auto, using(crate::proofs::Searching::good_at_start))]
 pub fn find_values(alloc: Global, circuit: &Circuit<'_>) -> Result<Option<Vec<bool>>, AllocError>
     requires { IsCircuit (nodes_of circuit.now) }
-    ensures { IfOk result (λ found. MatchOption found ((w : ℕ → Bool) → IsValuation w (nodes_of circuit.now) → ⊥) (λ values. (length values.items ≡ length (nodes_of circuit.now)) × IsValuation (assigned values.items) (nodes_of circuit.now))) }
+    ensures { IfOk result (λ found. MatchOption found ((w : ℕ → Bool) → IsValuation w (nodes_of circuit.now) → ⊥)
+        (λ values. (length values.items ≡ length (nodes_of circuit.now)) × IsValuation (assigned values.items) (nodes_of circuit.now))) }
 {
     let mut trail = Trail::new(alloc, circuit.len())?;
     loop {

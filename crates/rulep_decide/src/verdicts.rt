@@ -29,7 +29,8 @@ fn refutation<'a>(
     conclusion: &'a Tm,
 ) -> Result<Circuit<'a>, AllocError>
     ensures numbered { IfOk result (λ circuit. IsNumbered circuit) }
-    ensures demands { IfOk result (λ circuit. (is_true : Term → Bool) → meets is_true (nodes_of circuit) ≡ (not (truth_value is_true (plain_term conclusion.now)) && are_true is_true premises.now)) }
+    ensures demands { IfOk result (λ circuit. (is_true : Term → Bool)
+        → meets is_true (nodes_of circuit) ≡ (not (truth_value is_true (plain_term conclusion.now)) && are_true is_true premises.now)) }
     ensures atoms { IfOk result (λ circuit. HasAtomsAmong (atoms_among premises.now (plain_term conclusion.now)) (nodes_of circuit)) }
 {
     let mut circuit = Circuit::new(alloc);
